@@ -1,0 +1,1 @@
+// No code: the lettered cases, proved by computing the definitions.

@@ -1,0 +1,15 @@
+-- Sets of small numbers (keys, sites) as the bits of one number: bit k for member k.
+use Prim.Native.Nat.{ℕ, _+_, _/_, _%_, _^_}
+use mathlib.Core.Bool.{Bool}
+use lib.Dec.{eqb}
+
+unfoldable pub member : ℕ → ℕ → Bool
+member m k = eqb (m / 2 ^ k % 2) 1
+
+-- each member is below n
+unfoldable pub within : ℕ → ℕ → Bool
+within m n = eqb (m / 2 ^ n) 0
+
+-- the set with k, which is no member
+unfoldable pub adding : ℕ → ℕ → ℕ
+adding m k = m + 2 ^ k

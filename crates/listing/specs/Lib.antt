@@ -1,0 +1,4 @@
+pub mod Text
+pub mod Run
+pub mod Lines
+pub mod Listing

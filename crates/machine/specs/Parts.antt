@@ -1,0 +1,128 @@
+-- The parts of a state by name, and the state with one of them changed.
+use Prim.Native.Nat.{ℕ, _+_, _*_}
+use mathlib.Core.Bool.{Bool, true, false}
+use mathlib.Core.List.{List}
+use lib.ListN.{getD, set}
+use Rattle.keys.specs.Keys.{adding}
+use Rattle.machine.specs.declared.State.{State}
+use Rattle.machine.specs.declared.Version.{Version}
+use Rattle.machine.specs.declared.Place.{Place}
+
+abbrev pub version : ℕ → Version
+version n = record { 0 = n }
+
+abbrev pub place : ℕ → Place
+place n = record { 0 = n }
+
+-- the place of t, 0 if it has none
+abbrev pub placeOf : State → ℕ → ℕ
+placeOf st t = getD (st .places) t (place 0) .0
+
+-- version and value of k at s
+abbrev pub versionAt : State → ℕ → ℕ → ℕ
+versionAt st s k = getD (st .versions) (s * 64 + k) (version 0) .0
+
+abbrev pub valueAt : State → ℕ → ℕ → ℕ
+valueAt st s k = getD (st .values) (s * 64 + k) 0
+
+-- of t's i-th read: was it recorded, and which version
+abbrev pub recordedOf : State → ℕ → ℕ → Bool
+recordedOf st t i = getD (st .recorded) (t * 8 + i) false
+
+abbrev pub readVersion : State → ℕ → ℕ → ℕ
+readVersion st t i = getD (st .readversions) (t * 8 + i) (version 0) .0
+
+abbrev pub deliveredAt : State → ℕ → ℕ → Bool
+deliveredAt st t s = getD (st .delivered) (t * 16 + s) false
+
+-- 0 open, 1 committed, 2 aborted
+abbrev pub closedAt : State → ℕ → ℕ → ℕ
+closedAt st t s = getD (st .closed) (t * 16 + s) 0
+
+-- 0 none, 1 yes, 2 or more no
+abbrev pub castBy : State → ℕ → ℕ → ℕ
+castBy st t s = getD (st .cast) (t * 16 + s) 0
+
+-- the sites whose votes on t were carried to s
+abbrev pub carriedTo : State → ℕ → ℕ → ℕ
+carriedTo st t s = getD (st .carried) (t * 16 + s) 0
+
+-- with version v and value x recorded for t's i-th read
+abbrev pub withRead : State → ℕ → ℕ → ℕ → ℕ → State
+withRead st t i v x = record {
+  tables = st .tables;
+  versions = st .versions;
+  values = st .values;
+  recorded = set (st .recorded) (t * 8 + i) true;
+  readversions = set (st .readversions) (t * 8 + i) (version v);
+  readvalues = set (st .readvalues) (t * 8 + i) x;
+  places = st .places;
+  delivered = st .delivered;
+  closed = st .closed;
+  cast = st .cast;
+  carried = st .carried;
+}
+
+-- with t at place p
+abbrev pub withPlace : State → ℕ → ℕ → State
+withPlace st t p = record {
+  tables = st .tables;
+  versions = st .versions;
+  values = st .values;
+  recorded = st .recorded;
+  readversions = st .readversions;
+  readvalues = st .readvalues;
+  places = set (st .places) t (place p);
+  delivered = st .delivered;
+  closed = st .closed;
+  cast = st .cast;
+  carried = st .carried;
+}
+
+-- with t in the queue of s, and the vote v of s
+abbrev pub withDelivery : State → ℕ → ℕ → ℕ → State
+withDelivery st t s v = record {
+  tables = st .tables;
+  versions = st .versions;
+  values = st .values;
+  recorded = st .recorded;
+  readversions = st .readversions;
+  readvalues = st .readvalues;
+  places = st .places;
+  delivered = set (st .delivered) (t * 16 + s) true;
+  closed = st .closed;
+  cast = set (st .cast) (t * 16 + s) v;
+  carried = st .carried;
+}
+
+-- with the vote of f on t carried to s
+abbrev pub withCarried : State → ℕ → ℕ → ℕ → State
+withCarried st t f s = record {
+  tables = st .tables;
+  versions = st .versions;
+  values = st .values;
+  recorded = st .recorded;
+  readversions = st .readversions;
+  readvalues = st .readvalues;
+  places = st .places;
+  delivered = st .delivered;
+  closed = st .closed;
+  cast = st .cast;
+  carried = set (st .carried) (t * 16 + s) (adding (carriedTo st t s) f);
+}
+
+-- with t closed at s by the verdict c, and these stores
+abbrev pub withClosed : State → ℕ → ℕ → ℕ → List Version → List ℕ → State
+withClosed st t s c versions values = record {
+  tables = st .tables;
+  versions = versions;
+  values = values;
+  recorded = st .recorded;
+  readversions = st .readversions;
+  readvalues = st .readvalues;
+  places = st .places;
+  delivered = st .delivered;
+  closed = set (st .closed) (t * 16 + s) c;
+  cast = st .cast;
+  carried = st .carried;
+}

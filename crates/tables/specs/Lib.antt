@@ -1,0 +1,5 @@
+pub mod Empty
+pub mod Lists
+pub mod Sites
+pub mod Concern
+pub mod Judge
