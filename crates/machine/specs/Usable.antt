@@ -1,11 +1,10 @@
 -- The states that a step can run on; it answers 10 on any other.
-use Prim.Native.Nat.{ℕ, _*_}
+use Prim.Native.Nat.{ℕ}
 use mathlib.Core.Bool.{Bool, _&&_, not}
 use lib.Dec.{leb}
 use Rattle.bounded.specs.Bounded.{allBelow}
-use Rattle.tables.specs.Lists.{readCount, writeCount}
+use Rattle.tables.specs.Lists.{present, twice, readCount, writeCount}
 use Rattle.tables.specs.Sites.{siteCount}
-use Rattle.tables.specs.Judge.{present, twice}
 use Rattle.tables.specs.declared.Tables.{Tables}
 use Rattle.machine.specs.Parts.{placeOf}
 use Rattle.machine.specs.declared.State.{State}
@@ -19,9 +18,9 @@ unfoldable pub txnFits : Tables → ℕ → Bool
 txnFits T t =
     leb (readCount T t) 8
     && (leb (writeCount T t) 8
-    && (present (T .keys) (T .reads) (t * 8) (readCount T t)
-    && (present (T .keys) (T .writes) (t * 8) (writeCount T t)
-    && (not (twice (T .reads) (t * 8) (readCount T t)) && not (twice (T .writes) (t * 8) (writeCount T t))))))
+    && (present (T .reads) t (readCount T t) (T .keys)
+    && (present (T .writes) t (writeCount T t) (T .keys)
+    && (not (twice (T .reads) t (readCount T t)) && not (twice (T .writes) t (writeCount T t))))))
 
 -- nor a place over 128
 unfoldable pub usable : State → Bool

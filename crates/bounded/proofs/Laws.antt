@@ -1,0 +1,135 @@
+-- The laws of tests, sums and searches below a bound: one turn of each, what they say of each number, and where a search stands.
+-- Assumes nothing.
+use Prim.Native.Nat.{ℕ, zero, suc, _+_, _-_, _≤_, _<_}
+use mathlib.Core.Path.{_≡_, refl, sym, ap, _∙_}
+use mathlib.Core.Bool.{Bool, true, false, _&&_, _||_, cond}
+use mathlib.Core.Logic.{_⊎_, inl, inr}
+use mathlib.Core.List.{List, [], _∷_}
+use native.Mathlib.Omega.{arith}
+use native.Mathlib.Numerals.{add-one, sub-one}
+use native.Mathlib.Nat.{not-suc-le-zero}
+use lib.Dec.{eqb, ltb}
+use lib.ListN.{length, getD}
+use borrow.Author.Tests.{ltb-true, ltb-false, eq-eqb, ne-eqb}
+use Rattle.bounded.specs.Bounded.{anyBelow, allBelow, sumBelow, earlier, firstBelow, orElse, firstOf, listFrom}
+use Rattle.bounded.proofs.Truth.{and-true, and-put, or-true, or-left, or-right, bool, clash, same}
+
+-- ---- one turn
+
+pub any-down : (i : ℕ) (p : ℕ → Bool) → 0 < i → anyBelow i p ≡ (p (i - 1) || anyBelow (i - 1) p)
+unfolding anyBelow
+any-down zero p h = absurd (not-suc-le-zero h)
+any-down (suc i) p h = rw sub-one
+
+pub any-up : (i : ℕ) (p : ℕ → Bool) → anyBelow (i + 1) p ≡ (p i || anyBelow i p)
+unfolding anyBelow
+any-up i p = rw add-one
+
+pub all-down : (i : ℕ) (p : ℕ → Bool) → 0 < i → allBelow i p ≡ (p (i - 1) && allBelow (i - 1) p)
+unfolding allBelow
+all-down zero p h = absurd (not-suc-le-zero h)
+all-down (suc i) p h = rw sub-one
+
+pub sum-up : (i : ℕ) (f : ℕ → ℕ) → sumBelow (i + 1) f ≡ sumBelow i f + f i
+unfolding sumBelow
+sum-up i f = rw add-one
+
+pub first-up : (i : ℕ) (rank : ℕ → ℕ) (p : ℕ → Bool) (d : ℕ) → firstBelow (i + 1) rank p d ≡ earlier rank (p i) d i (firstBelow i rank p d)
+unfolding firstBelow
+first-up i rank p d = rw add-one
+
+pub of-up : (i : ℕ) (f : ℕ → ℕ) → firstOf (i + 1) f ≡ orElse (firstOf i f) (f i)
+unfolding firstOf
+of-up i f = rw add-one
+
+-- ---- what they say of each number
+
+pub any-put : (n : ℕ) (p : ℕ → Bool) (i : ℕ) → i < n → p i ≡ true → anyBelow n p ≡ true
+unfolding anyBelow
+any-put zero p i l h = absurd (not-suc-le-zero l)
+any-put (suc n) p i l h = go (same i n) (any-put n p i)
+  where
+    go : (i ≡ n) ⊎ (i ≡ n → ⊥) → (i < n → p i ≡ true → anyBelow n p ≡ true) → (p n || anyBelow n p) ≡ true
+    go (inl e) r = or-left (p n) (anyBelow n p) (rw e at h)
+    go (inr d) r = or-right (p n) (anyBelow n p) (r (omega arith) h)
+
+pub any-get : (n : ℕ) (p : ℕ → Bool) → anyBelow n p ≡ true → (i : ℕ) × (i < n) × (p i ≡ true)
+unfolding anyBelow
+any-get zero p h = clash h refl
+any-get (suc n) p h = go (or-true (p n) (anyBelow n p) h) (any-get n p)
+  where
+    go : (p n ≡ true) ⊎ (anyBelow n p ≡ true) → (anyBelow n p ≡ true → (i : ℕ) × (i < n) × (p i ≡ true)) → (i : ℕ) × (i < suc n) × (p i ≡ true)
+    go (inl e) r = (n, omega arith, e)
+    go (inr e) r = let (i, l, q) = r e in (i, omega arith, q)
+
+pub any-none : (n : ℕ) (p : ℕ → Bool) → anyBelow n p ≡ false → (i : ℕ) → i < n → p i ≡ false
+any-none n p h i l = elim (bool (p i)) [ inl e ↦ clash (any-put n p i l e) h | inr e ↦ e ]
+
+pub all-get : (n : ℕ) (p : ℕ → Bool) → allBelow n p ≡ true → (i : ℕ) → i < n → p i ≡ true
+unfolding allBelow
+all-get zero p h i l = absurd (not-suc-le-zero l)
+all-get (suc n) p h i l = let (a, b) = and-true (p n) (allBelow n p) h in go a (all-get n p b) (same i n)
+  where
+    go : p n ≡ true → ((j : ℕ) → j < n → p j ≡ true) → (i ≡ n) ⊎ (i ≡ n → ⊥) → p i ≡ true
+    go a r (inl e) = rw e a
+    go a r (inr e) = r i (omega arith)
+
+pub all-put : (n : ℕ) (p : ℕ → Bool) → ((i : ℕ) → i < n → p i ≡ true) → allBelow n p ≡ true
+unfolding allBelow
+all-put zero p h = refl
+all-put (suc n) p h = and-put (p n) (allBelow n p) (h n (omega arith)) (all-put n p (λ i l. h i (omega arith)))
+
+-- ---- where a search stands
+
+-- the one found passes, is below n, and none that passes ranks below it, or as low with a lower number
+pub record First (n : ℕ) (rank : ℕ → ℕ) (p : ℕ → Bool) (i : ℕ) : Type 0 where
+  pub low : i < n
+  pub passes : p i ≡ true
+  pub least : (j : ℕ) → j < n → p j ≡ true → rank i ≤ rank j
+  pub lower : (j : ℕ) → j < n → p j ≡ true → rank j ≡ rank i → i ≤ j
+
+-- a search finds the first, or none passes
+pub first-is : (n : ℕ) (rank : ℕ → ℕ) (p : ℕ → Bool) (d : ℕ) → n ≤ d
+    → First n rank p (firstBelow n rank p d) ⊎ ((firstBelow n rank p d ≡ d) × ((j : ℕ) → j < n → p j ≡ false))
+unfolding firstBelow
+first-is zero rank p d l = inr (refl, λ j k. absurd (not-suc-le-zero k))
+first-is (suc n) rank p d l = step (firstBelow n rank p d) (first-is n rank p d (omega arith)) (p n) refl
+  where
+    here : (f : ℕ) → p n ≡ true → ((j : ℕ) → j < n → p j ≡ true → rank n < rank j) → First (suc n) rank p n
+    here f e h = record {
+      low = omega arith;
+      passes = e;
+      least = λ j k q. elim (same j n) [ inl x ↦ rw x (omega arith) | inr x ↦ omega (arith, h j (omega arith) q) ];
+      lower = λ j k q r. elim (same j n) [ inl x ↦ omega arith | inr x ↦ absurd (omega (arith, h j (omega arith) q)) ];
+    }
+
+    keep : (f : ℕ) → First n rank p f → (p n ≡ true → rank f ≤ rank n) → First (suc n) rank p f
+    keep f g h = record {
+      low = omega (arith, g .low);
+      passes = g .passes;
+      least = λ j k q. elim (same j n) [ inl x ↦ rw x (h (rw x at q)) | inr x ↦ g .least j (omega arith) q ];
+      lower = λ j k q r. elim (same j n) [ inl x ↦ omega (arith, g .low) | inr x ↦ g .lower j (omega arith) q r ];
+    }
+
+    step : (f : ℕ) → First n rank p f ⊎ ((f ≡ d) × ((j : ℕ) → j < n → p j ≡ false)) → (b : Bool) → p n ≡ b
+        → First (suc n) rank p (earlier rank b d n f) ⊎ ((earlier rank b d n f ≡ d) × ((j : ℕ) → j < suc n → p j ≡ false))
+    step f (inl g) false e = inl (keep f g (λ q. clash q e))
+    step f (inr q) false e = inr (q .0, λ j k. elim (same j n) [ inl x ↦ rw x e | inr x ↦ q .1 j (omega arith) ])
+    step f (inr q) true e = rw (eq-eqb f d (q .0)) (inl (here f e (λ j k h. clash h (q .1 j k))))
+    step f (inl g) true e = rw (ne-eqb f d (λ x. absurd (omega (arith, g .low)))) (elim (bool (ltb (rank n) (rank f))) [
+      | inl y ↦ rw y (inl (here f e (λ j k h. omega (arith, ltb-true (rank n) (rank f) y, g .least j k h))))
+      | inr y ↦ rw y (inl (keep f g (λ _. ltb-false (rank n) (rank f) y)))
+    ])
+
+-- ---- a list by its elements
+
+pub list-length : {A : Type 0} (i n : ℕ) (f : ℕ → A) → length (listFrom i n f) ≡ n
+unfolding listFrom
+list-length i zero f = refl
+list-length i (suc n) f = ap suc (list-length (suc i) n f)
+
+pub list-at : {A : Type 0} (i n : ℕ) (f : ℕ → A) (j : ℕ) (d : A) → j < n → getD (listFrom i n f) j d ≡ f (i + j)
+unfolding listFrom
+list-at i zero f j d l = absurd (not-suc-le-zero l)
+list-at i (suc n) f zero d l = ap f (omega arith)
+list-at i (suc n) f (suc j) d l = list-at (suc i) n f j d (omega arith) ∙ ap f (omega arith)
