@@ -2,9 +2,10 @@
 
 use std::fmt::Write;
 
-use crate::machine::{Answer, Settle, State, Step};
+use crate::machine::{Answer, Settle, Step};
 use crate::reader;
 use crate::sets::Set;
+use crate::state::State;
 
 pub fn listing(file: &[u8], settle: Settle) -> String {
     match reader::read_file(file) {
@@ -27,7 +28,7 @@ fn run(mut state: State, schedule: &[Step], settle: Settle) -> String {
 fn list_transactions(out: &mut String, state: &State) {
     for (t, progress) in state.progress.iter().enumerate() {
         let lowest_closed = progress.closed.first();
-        let verdict = lowest_closed.and_then(|s| state.outcome(t, s)).map_or(0, |v| v as u32);
+        let verdict = lowest_closed.and_then(|s| progress.outcome(s)).map_or(0, |v| v as u32);
         line(out, "TXN", &[t as u32, progress.place.0, verdict]);
     }
 }

@@ -26,7 +26,7 @@ mistakes! {
     "same-place" SamePlace: "SUBMIT gives the second transaction the first one's place.";
     "refusal-writes" RefusalWrites: "A refused step changes a version.";
     "wrong-answer" WrongAnswer: "READ answers the version plus one.";
-    "fast-order" FastOrder: "The fast SETTLE carries to the highest site first.";
+    "fast-order" FastOrder: "The fast SETTLE carries from the highest site first.";
     "fast-overflow" FastOverflow: "The fast SETTLE does not look at refusal 32.";
 }
 

@@ -1,9 +1,9 @@
 //! The reader: a file is cut in setup and schedule, then judged record by record.
 
-use crate::machine::Step;
-use crate::record::{self, big_endian, first_record, length_is_right, HEADER};
+use crate::machine::{ensure, Step};
+use crate::record::{big_endian, first_record, length_is_right, HEADER};
 use crate::record::{CARRY, CLOSE, DELIVER, END, GROUP, KEYS, READ, SETTLE, SUBMIT, TXN};
-use crate::sets::{KeySet, Set};
+use crate::sets::KeySet;
 use crate::tables::{has_twice, Group, Setup, Transaction, Write};
 use crate::tables::{MAX_GROUPS, MAX_INPUT, MAX_KEYS, MAX_LIST, MAX_SITES, MAX_TRANSACTIONS};
 
@@ -50,10 +50,8 @@ pub fn read(setup: &[u8], schedule: &[u8]) -> Result<File, Refusal> {
         return Err(Refusal { number: TOO_LONG, offset: 0 });
     }
     let read_setup = read_setup(setup)?;
-    let read_schedule = read_schedule(schedule).map_err(|refusal| Refusal {
-        offset: setup.len() + refusal.offset,
-        ..refusal
-    })?;
+    let read_schedule = read_schedule(schedule)
+        .map_err(|refusal| Refusal { offset: setup.len() + refusal.offset, ..refusal })?;
     Ok(File { setup: read_setup, schedule: read_schedule })
 }
 
@@ -146,10 +144,6 @@ fn first_values(body: &[u8]) -> Vec<u32> {
     body.chunks(4).map(|value| big_endian(value) as u32).collect()
 }
 
-fn ensure(condition: bool, number: u8) -> Result<(), u8> {
-    if condition { Ok(()) } else { Err(number) }
-}
-
 fn take_group(setup: &mut Setup, body: &[u8]) -> Result<(), u8> {
     let group = Group { sites: usize::from(body[0]), keys: big_endian(&body[1..]) };
     let sites_before: usize = setup.groups.iter().map(|group| group.sites).sum();
@@ -212,7 +206,7 @@ pub fn step(tag: u8, body: &[u8]) -> Step {
         DELIVER => Step::Deliver { s: number(0) },
         CARRY => Step::Carry { t: number(0), from: number(1), to: number(2) },
         CLOSE => Step::Close { t: number(0), s: number(1) },
-        record::SETTLE => Step::Settle,
+        SETTLE => Step::Settle,
         _ => unreachable!("only schedule tags come here"),
     }
 }

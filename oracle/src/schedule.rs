@@ -1,11 +1,12 @@
 //! Random schedules, made by running them: a share of the steps is chosen so that it is
 //! accepted, the rest is anything.
 
-use crate::machine::{State, Step};
+use crate::machine::Step;
 use crate::random::Random;
 use crate::record::{file_of, setup_records, Record, HEADER};
-use crate::settle;
 use crate::sets::{Set, SiteSet};
+use crate::settle;
+use crate::state::State;
 use crate::tables::Setup;
 
 /// How the steps of a schedule are chosen.
@@ -18,21 +19,23 @@ pub struct Habit {
     pub weights: [usize; 5],
 }
 
-pub struct Schedule<'r> {
+pub struct Schedule {
     pub state: State,
     pub records: Vec<Record>,
     pub size: usize,
-    random: &'r mut Random,
 }
+
+/// Weights for steps that are refused late: mostly DELIVER and CLOSE.
+const LATE_REFUSALS: [usize; 5] = [5, 10, 25, 10, 50];
 
 /// Guesses at a step that would be accepted, before anything is taken.
 const GUESSES: usize = 10;
 
-impl<'r> Schedule<'r> {
-    pub fn new(setup: Setup, random: &'r mut Random) -> Schedule<'r> {
+impl Schedule {
+    pub fn new(setup: Setup) -> Schedule {
         let records = setup_records(&setup);
         let size = file_of(&records).len();
-        Schedule { state: State::fresh(setup), records, size, random }
+        Schedule { state: State::fresh(setup), records, size }
     }
 
     pub fn add(&mut self, step: Step) {
@@ -42,13 +45,13 @@ impl<'r> Schedule<'r> {
         self.state.step(step, settle::fast);
     }
 
-    pub fn add_chosen(&mut self, habit: &Habit) {
-        let step = if self.random.chance(habit.settle) {
+    pub fn add_chosen(&mut self, habit: &Habit, random: &mut Random) {
+        let step = if random.chance(habit.settle) {
             Step::Settle
-        } else if self.random.chance(habit.likely) {
-            self.likely_step(&habit.weights)
+        } else if random.chance(habit.likely) {
+            self.likely_step(&habit.weights, random)
         } else {
-            any_step(&self.state, self.random)
+            self.other_step(random)
         };
         self.add(step);
     }
@@ -57,14 +60,23 @@ impl<'r> Schedule<'r> {
         file_of(&self.records)
     }
 
-    fn likely_step(&mut self, weights: &[usize; 5]) -> Step {
+    fn likely_step(&self, weights: &[usize; 5], random: &mut Random) -> Step {
         for _ in 0..GUESSES {
-            let step = guess(&self.state, self.random, weights);
+            let step = guess(&self.state, random, weights);
             if self.state.accepts(step) {
                 return step;
             }
         }
-        any_step(&self.state, self.random)
+        self.other_step(random)
+    }
+
+    /// A step that may be refused for one of the later reasons, or for any.
+    fn other_step(&self, random: &mut Random) -> Step {
+        if random.chance(50) {
+            guess(&self.state, random, &LATE_REFUSALS)
+        } else {
+            any_step(&self.state, random)
+        }
     }
 }
 
@@ -88,8 +100,9 @@ fn guess(state: &State, random: &mut Random, weights: &[usize; 5]) -> Step {
             let from = site_of(progress.voted, sites, random);
             Step::Carry { t, from, to: site_of(state.reach(t).sites, sites, random) }
         }
-        (4, Some(progress)) => {
-            Step::Close { t, s: site_of(progress.delivered & !progress.closed, sites, random) }
+        (4, Some(_)) => {
+            let queue = state.queue(s);
+            Step::Close { t: queue.get(random.below(queue.len())).copied().unwrap_or(t), s }
         }
         _ => Step::Deliver { s },
     }

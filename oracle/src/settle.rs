@@ -1,9 +1,9 @@
 //! SETTLE, twice: as its words say, and in time proportional to the steps taken.
 //! Both take the same steps in the same order.
 
-use crate::machine::{State, Step, Verdict, NO_PLACE};
 use crate::mistakes::Mistake;
 use crate::sets::{Set, SiteSet, TxnSet};
+use crate::state::{State, Verdict};
 use crate::tables::MAX_SITES;
 
 /// Repeats the first step accepted among CLOSE, DELIVER and CARRY, trying all in order.
@@ -17,25 +17,24 @@ pub fn plain(state: &mut State) -> u32 {
 
 /// CLOSE: lowest site, then queue order.
 fn first_close(state: &mut State) -> bool {
-    let sites = state.tables.sites();
-    (0..sites).any(|s| state.queue(s).into_iter().any(|t| state.try_step(Step::Close { t, s })))
+    let mut sites = 0..state.tables.sites();
+    sites.any(|s| state.queue(s).into_iter().any(|t| state.close(t, s).is_ok()))
 }
 
 /// DELIVER: lowest site.
 fn first_deliver(state: &mut State) -> bool {
-    let sites = state.tables.sites();
-    (0..sites).any(|s| state.try_step(Step::Deliver { s }))
+    let mut sites = 0..state.tables.sites();
+    sites.any(|s| state.deliver(s).is_ok())
 }
 
 /// CARRY: lowest place, then from, then to.
 fn first_carry(state: &mut State) -> bool {
     let sites = state.tables.sites();
     let mut by_place: Vec<usize> = (0..state.progress.len()).collect();
-    by_place.sort_by_key(|t| (state.progress[*t].place, *t));
-    by_place.into_iter().any(|t| {
-        (0..sites)
-            .any(|from| (0..sites).any(|to| state.try_step(Step::Carry { t, from, to })))
-    })
+    by_place.sort_by_key(|t| state.rank(*t));
+    by_place
+        .into_iter()
+        .any(|t| (0..sites).any(|from| (0..sites).any(|to| state.carry(t, from, to).is_ok())))
 }
 
 /// Takes the same steps as `plain`, from notes of what can still be done.
@@ -54,15 +53,7 @@ pub fn fast(state: &mut State) -> u32 {
 
 /// Some site has yet to deliver it, to close it, or to be handed a vote on it.
 fn is_live(state: &State, t: usize) -> bool {
-    let progress = &state.progress[t];
-    progress.delivered & !progress.closed != 0
-        || undelivered(state, t) != 0
-        || has_unsent_vote(state, t)
-}
-
-fn undelivered(state: &State, t: usize) -> SiteSet {
-    let progress = &state.progress[t];
-    if progress.place == NO_PLACE { 0 } else { state.reach(t).sites & !progress.delivered }
+    state.progress[t].queued_at() != 0 || state.undelivered(t) != 0 || has_unsent_vote(state, t)
 }
 
 /// The sites of R(T) that a vote cast by `from` was not handed to.
@@ -72,8 +63,16 @@ fn without_vote(state: &State, t: usize, from: usize) -> SiteSet {
 
 fn has_unsent_vote(state: &State, t: usize) -> bool {
     let voted = state.progress[t].voted;
-    let lacks = |from: usize| if voted.has(from) { without_vote(state, t, from) } else { 0 };
-    !state.reach(t).local && (0..MAX_SITES).fold(0, |lacking, from| lacking | lacks(from)) != 0
+    let lacks = |from: usize| {
+        if voted.has(from) {
+            without_vote(state, t, from)
+        } else {
+            0
+        }
+    };
+    voted != 0
+        && !state.reach(t).local
+        && (0..MAX_SITES).fold(0, |lacking, from| lacking | lacks(from)) != 0
 }
 
 /// What can still be done. Sets of transactions are by rank (place, then number) among
@@ -103,7 +102,7 @@ struct SiteNotes {
 
 impl Notes {
     fn new(state: &State, mut live: Vec<usize>) -> Notes {
-        live.sort_by_key(|t| (state.progress[*t].place, *t));
+        live.sort_by_key(|t| state.rank(*t));
         let mut notes = Notes {
             by_rank: live,
             sites: [SiteNotes::default(); MAX_SITES],
@@ -119,11 +118,10 @@ impl Notes {
 
     fn add(&mut self, state: &State, rank: usize) {
         let t = self.by_rank[rank];
-        let progress = &state.progress[t];
-        for s in undelivered(state, t).members() {
+        for s in state.undelivered(t).members() {
             self.sites[s].undelivered.add(rank);
         }
-        for s in (progress.delivered & !progress.closed).members() {
+        for s in state.progress[t].queued_at().members() {
             self.note_queued(state, rank, s);
         }
         if has_unsent_vote(state, t) {
@@ -181,7 +179,7 @@ impl Notes {
     fn close_at(&mut self, state: &mut State, rank: usize, s: usize) {
         let t = self.by_rank[rank];
         let site = &mut self.sites[s];
-        let verdict = if site.commits.has(rank) { Verdict::Commit } else { Verdict::Abort };
+        let verdict = Verdict::commit_if(site.commits.has(rank));
         site.queue.remove(rank);
         site.queued.remove(t);
         site.commits.remove(rank);
@@ -213,7 +211,7 @@ impl Notes {
         let t = self.by_rank[rank];
         self.sites[s].undelivered.remove(rank);
         let vote = state.enter_queue(t, s);
-        if state.in_queue(t, s) {
+        if state.progress[t].queued_at().has(s) {
             self.note_queued(state, rank, s);
         }
         if vote.is_some() && !state.reach(t).local {
@@ -240,9 +238,10 @@ impl Notes {
 
 /// The lowest from, then to, between which a vote on t may be carried.
 fn unsent_vote(state: &State, t: usize) -> Option<(usize, usize)> {
-    state.progress[t].voted.members().find_map(|from| {
-        let lacking = without_vote(state, t, from);
-        let to = if state.makes(Mistake::FastOrder) { lacking.members().last() } else { lacking.first() };
-        to.map(|to| (from, to))
-    })
+    let to = |from: usize| without_vote(state, t, from).first().map(|to| (from, to));
+    let mut voters = state.progress[t].voted.members();
+    if state.makes(Mistake::FastOrder) {
+        return voters.filter_map(to).last();
+    }
+    voters.find_map(to)
 }

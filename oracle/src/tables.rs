@@ -103,7 +103,8 @@ pub fn set_of(keys: &[usize]) -> KeySet {
 fn all_reaches(transactions: &[Transaction], site_keys: &[KeySet]) -> Vec<Reach> {
     let mut reaches: Vec<Reach> = transactions.iter().map(|txn| reach(txn, site_keys)).collect();
     for t in 0..reaches.len() {
-        let in_conflict = (0..reaches.len()).filter(|other| conflict(&reaches[t], &reaches[*other]));
+        let in_conflict =
+            (0..reaches.len()).filter(|other| conflict(&reaches[t], &reaches[*other]));
         reaches[t].conflicts = in_conflict.fold(0, |set, other| set | TxnSet::one(other));
     }
     reaches

@@ -42,6 +42,34 @@ pub of-up : (i : ℕ) (f : ℕ → ℕ) → firstOf (i + 1) f ≡ orElse (firstO
 unfolding firstOf
 of-up i f = rw add-one
 
+-- a search for the first that is not 0 stops there
+pub of-stop : (n g : ℕ) (f : ℕ → ℕ) → g < n → firstOf g f ≡ 0 → (f g ≡ 0 → ⊥) → firstOf n f ≡ f g
+unfolding firstOf
+of-stop zero g f l z s = absurd (not-suc-le-zero l)
+of-stop (suc n) g f l z s = go (same g n) (of-stop n g f)
+  where
+    keep : (a b : ℕ) → (a ≡ 0 → ⊥) → orElse a b ≡ a
+    keep zero b h = absurd (h refl)
+    keep (suc a) b h = refl
+
+    go : (g ≡ n) ⊎ (g ≡ n → ⊥) → (g < n → firstOf g f ≡ 0 → (f g ≡ 0 → ⊥) → firstOf n f ≡ f g) → orElse (firstOf n f) (f n) ≡ f g
+    go (inl e) r = rw (← e, z)
+    go (inr d) r = let e : firstOf n f ≡ f g = r (omega arith) z s in rw e (keep (f g) (f n) s)
+
+-- where it finds none, all are 0
+pub of-none : (n : ℕ) (f : ℕ → ℕ) → firstOf n f ≡ 0 → (g : ℕ) → g < n → f g ≡ 0
+unfolding firstOf
+of-none zero f z g l = absurd (not-suc-le-zero l)
+of-none (suc n) f z g l = let (a, b) = both (firstOf n f) (f n) z in go b (of-none n f a g) (same g n)
+  where
+    both : (x y : ℕ) → orElse x y ≡ 0 → (x ≡ 0) × (y ≡ 0)
+    both zero y h = (refl, h)
+    both (suc x) y h = absurd (omega arith)
+
+    go : f n ≡ 0 → (g < n → f g ≡ 0) → (g ≡ n) ⊎ (g ≡ n → ⊥) → f g ≡ 0
+    go b r (inl e) = rw e b
+    go b r (inr d) = r (omega arith)
+
 -- ---- what they say of each number
 
 pub any-put : (n : ℕ) (p : ℕ → Bool) (i : ℕ) → i < n → p i ≡ true → anyBelow n p ≡ true

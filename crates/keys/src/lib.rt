@@ -23,7 +23,7 @@ pub fn keys_below(m: u64, n: u8) -> bool
     true
 }
 
-pub fn has_site(m: u16, s: u8) -> bool
+pub fn has_site(m: u16, s: usize) -> bool
     ensures { λ r. ⌜ r ≡ member m s ⌝ }
 {
     if s < 16 {
@@ -32,7 +32,7 @@ pub fn has_site(m: u16, s: u8) -> bool
     false
 }
 
-pub fn with_site(m: u16, s: u8) -> u16
+pub fn with_site(m: u16, s: usize) -> u16
     requires { ⌜ (s < 16) × (member m s ≡ false) ⌝ }
     ensures { λ r. ⌜ r ≡ adding m s ⌝ }
 {

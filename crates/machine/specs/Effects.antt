@@ -7,8 +7,9 @@ use lib.ListN.{getD, set}
 use Rattle.bounded.specs.Bounded.{countBelow}
 use Rattle.tables.specs.Lists.{readKey, writeCount, writeKey, writeValue}
 use Rattle.tables.specs.Sites.{holds}
-use Rattle.machine.specs.Parts.{version, place, placeOf, versionAt, valueAt, castBy, withRead, withPlace, withDelivery, withCarried, withClosed}
+use Rattle.machine.specs.Parts.{version, place, placeOf, versionAt, valueAt, castBy, withRead, withPlace, withDelivery, withCarried, withClosed, withStores}
 use Rattle.machine.specs.Rules.{nextAt, voteOf, verdict}
+use Rattle.tables.specs.declared.Tables.{Tables}
 use Rattle.machine.specs.declared.State.{State}
 use Rattle.machine.specs.declared.Version.{Version}
 use Rattle.machine.specs.declared.Stepped.{Stepped}
@@ -41,18 +42,24 @@ unfoldable pub carryDone : State → ℕ → ℕ → ℕ → Stepped
 carryDone st t from to = giving (answer.Carried (castBy st t from)) (withCarried st t from to)
 
 -- l, a store of rows of 64, with f of the i-th write and what was there, for each of t's first n written keys that s holds
-unfoldable pub stored : {A : Type 0} → State → ℕ → ℕ → A → (ℕ → A → A) → ℕ → List A → List A
-stored st t s d f zero l = l
-stored st t s d f (suc n) l =
-    let k = writeKey (st .tables) t n in
-    cond (holds (st .tables) s k) (set (stored st t s d f n l) (s * 64 + k) (f n (getD l (s * 64 + k) d))) (stored st t s d f n l)
+unfoldable pub stored : {A : Type 0} → Tables → ℕ → ℕ → A → (ℕ → A → A) → List A → ℕ → List A
+stored T t s d f l zero = l
+stored T t s d f l (suc i) =
+    let k = writeKey T t i in
+    let before = stored T t s d f l i in
+    cond (holds T s k) (set before (s * 64 + k) (f i (getD l (s * 64 + k) d))) before
 
--- a commit stores, for each written key that s holds, the value, and adds 1 to the version
+-- a commit adds 1 to the version, and stores the value
+abbrev pub versionsAfter : State → ℕ → ℕ → ℕ → List Version
+versionsAfter st t s n = stored (st .tables) t s (version 0) (λ i v. version (v .0 + 1)) (st .versions) n
+
+abbrev pub valuesAfter : State → ℕ → ℕ → ℕ → List ℕ
+valuesAfter st t s n = stored (st .tables) t s 0 (λ i x. writeValue (st .tables) t i) (st .values) n
+
+unfoldable pub committed : State → ℕ → ℕ → State
+committed st t s = withStores st (versionsAfter st t s (writeCount (st .tables) t)) (valuesAfter st t s (writeCount (st .tables) t))
+
 unfoldable pub closeDone : State → ℕ → ℕ → Stepped
 closeDone st t s =
-    let n = writeCount (st .tables) t in
-    let versions = stored st t s (version 0) (λ i v. version (v .0 + 1)) n (st .versions) in
-    let values = stored st t s 0 (λ i x. writeValue (st .tables) t i) n (st .values) in
-    let commit = withClosed st t s (verdict st t s) versions values in
-    let abort = withClosed st t s (verdict st t s) (st .versions) (st .values) in
-    giving (answer.Closed (verdict st t s)) (cond (eqb (verdict st t s) 1) commit abort)
+    let commit = committed st t s in
+    giving (answer.Closed (verdict st t s)) (withClosed (cond (eqb (verdict st t s) 1) commit st) t s (verdict st t s))

@@ -111,9 +111,25 @@ withCarried st t f s = record {
   carried = set (st .carried) (t * 16 + s) (adding (carriedTo st t s) f);
 }
 
--- with t closed at s by the verdict c, and these stores
-abbrev pub withClosed : State → ℕ → ℕ → ℕ → List Version → List ℕ → State
-withClosed st t s c versions values = record {
+-- with t closed at s by the verdict c
+abbrev pub withClosed : State → ℕ → ℕ → ℕ → State
+withClosed st t s c = record {
+  tables = st .tables;
+  versions = st .versions;
+  values = st .values;
+  recorded = st .recorded;
+  readversions = st .readversions;
+  readvalues = st .readvalues;
+  places = st .places;
+  delivered = st .delivered;
+  closed = set (st .closed) (t * 16 + s) c;
+  cast = st .cast;
+  carried = st .carried;
+}
+
+-- with these stores
+abbrev pub withStores : State → List Version → List ℕ → State
+withStores st versions values = record {
   tables = st .tables;
   versions = versions;
   values = values;
@@ -122,7 +138,7 @@ withClosed st t s c versions values = record {
   readvalues = st .readvalues;
   places = st .places;
   delivered = st .delivered;
-  closed = set (st .closed) (t * 16 + s) c;
+  closed = st .closed;
   cast = st .cast;
   carried = st .carried;
 }

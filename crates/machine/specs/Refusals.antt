@@ -39,16 +39,28 @@ deliverRefusal st s =
     0))
 
 -- t is local, from equals to, or from has cast no vote on t; carried before
+unfoldable pub voteRefusal : State → ℕ → ℕ → ℕ → ℕ
+voteRefusal st t from to =
+    cond (local (st .tables) t || (eqb from to || eqb (castBy st t from) 0)) 28
+    (cond (holdsVote st t to from) 24
+    0)
+
 unfoldable pub carryRefusal : State → ℕ → ℕ → ℕ → ℕ
 carryRefusal st t from to =
     cond (leb (st .tables .txns) t) 20
     (cond (leb (siteCount (st .tables)) from || leb (siteCount (st .tables)) to) 21
     (cond (not (concerns (st .tables) t to)) 23
-    (cond (local (st .tables) t || (eqb from to || eqb (castBy st t from) 0)) 28
-    (cond (holdsVote st t to from) 24
-    0))))
+    (voteRefusal st t from to)))
 
--- closed before; not delivered here; verdict not known; a commit that is not at the head, or has a version at its end
+-- verdict not known; a commit that is not at the head; a version at its end
+unfoldable pub verdictRefusal : State → ℕ → ℕ → ℕ
+verdictRefusal st t s =
+    cond (eqb (verdict st t s) 0) 30
+    (cond (eqb (verdict st t s) 1 && not (atHead st t s)) 31
+    (cond (eqb (verdict st t s) 1 && not (roomAt st t s)) 32
+    0))
+
+-- closed before; not delivered here
 unfoldable pub closeRefusal : State → ℕ → ℕ → ℕ
 closeRefusal st t s =
     cond (leb (st .tables .txns) t) 20
@@ -56,10 +68,7 @@ closeRefusal st t s =
     (cond (not (concerns (st .tables) t s)) 23
     (cond (ltb 0 (closedAt st t s)) 24
     (cond (not (deliveredAt st t s)) 29
-    (cond (eqb (verdict st t s) 0) 30
-    (cond (eqb (verdict st t s) 1 && not (atHead st t s)) 31
-    (cond (eqb (verdict st t s) 1 && not (roomAt st t s)) 32
-    0)))))))
+    (verdictRefusal st t s)))))
 
 unfoldable pub refusal : State → Step → ℕ
 refusal st (Read t i s) = readRefusal st t i s

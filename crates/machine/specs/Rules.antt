@@ -26,8 +26,11 @@ abbrev pub nobody : ℕ
 nobody = 128
 
 -- submitted, not yet delivered at s, and R(t) has s
+abbrev pub waitsBy : ℕ → Bool → Bool → Bool
+waitsBy p delivered concerned = ltb 0 p && (not delivered && concerned)
+
 abbrev pub waits : State → ℕ → ℕ → Bool
-waits st s t = ltb 0 (placeOf st t) && (not (deliveredAt st t s) && concerns (st .tables) t s)
+waits st s t = waitsBy (placeOf st t) (deliveredAt st t s) (concerns (st .tables) t s)
 
 -- the next at s is the lowest place that waits there
 unfoldable pub nextAt : State → ℕ → ℕ
@@ -54,11 +57,13 @@ voteOf st t s = cond (votes (st .tables) t s) (certify st t s) 0
 unfoldable pub holdsVote : State → ℕ → ℕ → ℕ → Bool
 holdsVote st t s f = cond (eqb f s) (ltb 0 (castBy st t s)) (member (carriedTo st t s) f)
 
+-- a site whose vote s holds holds k
+unfoldable pub coversKey : State → ℕ → ℕ → ℕ → Bool
+coversKey st t s k = anyBelow (siteCount (st .tables)) (λ f. holdsVote st t s f && holds (st .tables) f k)
+
 -- the sites whose votes s holds together hold all read keys
 unfoldable pub covered : State → ℕ → ℕ → Bool
-covered st t s =
-    allBelow (readCount (st .tables) t)
-    (λ i. anyBelow (siteCount (st .tables)) (λ f. holdsVote st t s f && holds (st .tables) f (readKey (st .tables) t i)))
+covered st t s = allBelow (readCount (st .tables) t) (λ i. coversKey st t s (readKey (st .tables) t i))
 
 -- every vote held is yes
 unfoldable pub allYes : State → ℕ → ℕ → Bool

@@ -24,9 +24,11 @@ done st (Carry t from to) = carryDone st t from to
 done st (Close t s) = closeDone st t s
 done st Settle = settleDone st
 
-unfoldable pub stepOf : State → Step → Stepped
-stepOf st x =
-    let n = refusal st x in
+-- refused, or done
+unfoldable pub decided : State → Step → Stepped
+decided st x =
     let takes = done st x in
-    let decided = cond (eqb n 0) takes (refused st n) in
-    cond (usable st) decided (refused st 10)
+    cond (eqb (refusal st x) 0) takes (refused st (refusal st x))
+
+unfoldable pub stepOf : State → Step → Stepped
+stepOf st x = let runs = decided st x in cond (usable st) runs (refused st 10)

@@ -1,6 +1,7 @@
 -- The number that the reader would give for tables, 0 where it would take them: record by record, as they would stand in a file.
 use Prim.Native.Nat.{ℕ, suc}
 use mathlib.Core.Bool.{Bool, _&&_, _||_, not, cond}
+use mathlib.Core.List.{List}
 use lib.Dec.{leb, ltb, eqb}
 use lib.ListN.{getD}
 use Rattle.bounded.specs.Bounded.{anyBelow, allBelow, firstOf, orElse}
@@ -36,11 +37,11 @@ unfoldable pub txnRefusal : Tables → ℕ → ℕ
 txnRefusal T t = orElse (countRefusal t (readCount T t) (writeCount T t)) (keyRefusal T t)
 
 -- END: a key that no group holds
-unfoldable pub someGroup : Tables → ℕ → Bool
-someGroup T k = anyBelow (T .groups) (λ g. member (getD (T .masks) g 0) k)
+unfoldable pub someGroup : List ℕ → ℕ → ℕ → Bool
+someGroup masks n k = anyBelow n (λ g. member (getD masks g 0) k)
 
 unfoldable pub endRefusal : Tables → ℕ
-endRefusal T = cond (allBelow (T .keys) (someGroup T)) 0 7
+endRefusal T = cond (allBelow (T .keys) (someGroup (T .masks) (T .groups))) 0 7
 
 -- END before any GROUP is 3
 unfoldable pub judge : Tables → ℕ

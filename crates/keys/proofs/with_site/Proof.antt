@@ -7,6 +7,9 @@ use Rattle.keys.proofs.with_site.Tie as tie
 use Rattle.keys.proofs.with_site.Reads as reads
 use Rattle.keys.proofs.with_site.Lts as lts
 
+cast-result : tie.Need-cast-result
+cast-result c = search needs
+
 shl-result : tie.Need-shl-result
 shl-result c = search needs
 
@@ -18,4 +21,4 @@ unfolding adding
 returns c = rw (one-shl 16 (c .args .s) (c .pre .0))
 
 pub with-site-spec : {M : Type 1} → statement M
-with-site-spec = tie.close (tie.spec shl-result add-result returns)
+with-site-spec = tie.close (tie.spec cast-result shl-result add-result returns)

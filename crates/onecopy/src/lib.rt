@@ -1,0 +1,1 @@
+// No code: the single copy, and what holds of every run.

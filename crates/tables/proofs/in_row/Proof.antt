@@ -1,0 +1,64 @@
+use Rattle.tables.specs.Lists.{inRow}
+use Rattle.bounded.specs.Bounded.{anyBelow}
+use Rattle.bounded.proofs.Laws.{any-down}
+use borrow.Author.Tests.{eq-eqb, ne-eqb, le-leb, lt-leb, le-ltb, lt-ltb}
+use mathlib.Core.Path.{_≡_, refl, sym, ap, _∙_}
+use Prim.Native.Nat.{_≤_, _<_, _+_, _*_, _-_}
+use native.Mathlib.Omega.{arith}
+use borrow.Author.Needs.{needs}
+use Rattle.tables.proofs.in_row.Statement.{statement}
+use Rattle.tables.proofs.in_row.Tie as tie
+use Rattle.tables.proofs.in_row.Reads as reads
+use Rattle.tables.proofs.in_row.Lts as lts
+
+abbrev Inv-loop : tie.InvT-loop
+Inv-loop row t n k i₀ i = (i ≤ n) × (inRow row t i k ≡ inRow row t n k)
+
+abbrev μ-loop : tie.MeasureT-loop
+μ-loop row t n k i₀ i = i
+
+loop-holds : tie.Need-loop-holds Inv-loop μ-loop
+loop-holds c = (omega arith, refl)
+
+sub-i : tie.Need-sub-i Inv-loop μ-loop
+sub-i c = search needs
+
+mul-if1 : tie.Need-mul-if1 Inv-loop μ-loop
+mul-if1 c = search needs
+
+add-if1 : tie.Need-add-if1 Inv-loop μ-loop
+add-if1 c = search needs
+
+element-copy-out-if1 : tie.Need-element-copy-out-if1 Inv-loop μ-loop
+element-copy-out-if1 c = search needs
+
+returns : tie.Need-returns Inv-loop μ-loop
+unfolding inRow
+returns c = rw (← c .before .before .before .loop .inv .1, any-down _ _ (c .before .before .loop-test .taken), eq-eqb _ _ (c .if1 .taken))
+
+loop-less : tie.Need-loop-less Inv-loop μ-loop
+loop-less c = search needs
+
+loop-again : tie.Need-loop-again Inv-loop μ-loop
+unfolding inRow
+loop-again c = (omega arith, rw (← c .before .before .before .loop .inv .1, any-down _ _ (c .before .before .loop-test .taken), ne-eqb _ _ (c .if1 .left)))
+
+returns-2 : tie.Need-returns-2 Inv-loop μ-loop
+unfolding inRow anyBelow
+returns-2 c = let z : c .before .loop .i ≡ 0 = omega arith in rw (← c .before .loop .inv .1, z)
+
+pub in-row-spec : {M : Type 1} → statement M
+in-row-spec =
+    tie.close
+    (tie.spec
+    Inv-loop
+    μ-loop
+    loop-holds
+    sub-i
+    mul-if1
+    add-if1
+    element-copy-out-if1
+    returns
+    loop-less
+    loop-again
+    returns-2)

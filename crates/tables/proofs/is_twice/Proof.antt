@@ -1,0 +1,69 @@
+use Rattle.tables.specs.Lists.{twice}
+use Rattle.bounded.specs.Bounded.{anyBelow}
+use Rattle.bounded.proofs.Laws.{any-down}
+use borrow.Author.Tests.{eq-eqb, ne-eqb, le-leb, lt-leb, le-ltb, lt-ltb}
+use mathlib.Core.Path.{_≡_, refl, sym, ap, _∙_}
+use Prim.Native.Nat.{_≤_, _<_, _+_, _*_, _-_}
+use native.Mathlib.Omega.{arith}
+use borrow.Author.Needs.{needs}
+use Rattle.tables.proofs.is_twice.Statement.{statement}
+use Rattle.tables.proofs.is_twice.Tie as tie
+use Rattle.tables.proofs.is_twice.Reads as reads
+use Rattle.tables.proofs.is_twice.Lts as lts
+use Rattle.tables.proofs.in_row.Reads as in-row-reads
+
+abbrev Inv-loop : tie.InvT-loop
+Inv-loop row t n i₀ i = (i ≤ n) × (twice row t i ≡ twice row t n)
+
+abbrev μ-loop : tie.MeasureT-loop
+μ-loop row t n i₀ i = i
+
+loop-holds : tie.Need-loop-holds Inv-loop μ-loop
+loop-holds c = (omega arith, refl)
+
+sub-i : tie.Need-sub-i Inv-loop μ-loop
+sub-i c = search needs
+
+mul-in-row : tie.Need-mul-in-row Inv-loop μ-loop
+mul-in-row c = search needs
+
+add-in-row : tie.Need-add-in-row Inv-loop μ-loop
+add-in-row c = search needs
+
+element-copy-out-in-row : tie.Need-element-copy-out-in-row Inv-loop μ-loop
+element-copy-out-in-row c = search needs
+
+in-row-requires : tie.Need-in-row-requires Inv-loop μ-loop
+in-row-requires c κs = search needs
+
+returns : tie.Need-returns Inv-loop μ-loop
+unfolding twice
+returns c = rw (← c .before .before .before .before .loop .inv .1, any-down _ _ (c .before .before .before .loop-test .taken), ← c .before .in-row .ensures, c .if1 .taken)
+
+loop-less : tie.Need-loop-less Inv-loop μ-loop
+loop-less c = search needs
+
+loop-again : tie.Need-loop-again Inv-loop μ-loop
+unfolding twice
+loop-again c = (omega arith, rw (← c .before .before .before .before .loop .inv .1, any-down _ _ (c .before .before .before .loop-test .taken), ← c .before .in-row .ensures, c .if1 .left))
+
+returns-2 : tie.Need-returns-2 Inv-loop μ-loop
+unfolding twice anyBelow
+returns-2 c = let z : c .before .loop .i ≡ 0 = omega arith in rw (← c .before .loop .inv .1, z)
+
+pub is-twice-spec : {M : Type 1} → statement M
+is-twice-spec =
+    tie.close
+    (tie.spec
+    Inv-loop
+    μ-loop
+    loop-holds
+    sub-i
+    mul-in-row
+    add-in-row
+    element-copy-out-in-row
+    in-row-requires
+    returns
+    loop-less
+    loop-again
+    returns-2)

@@ -1,0 +1,25 @@
+use Rattle.tables.specs.Judge.{keysRefusal}
+use borrow.Author.Tests.{eq-eqb, ne-eqb, le-leb, lt-leb, le-ltb, lt-ltb}
+use mathlib.Core.Path.{_≡_, refl, sym, ap, _∙_}
+use Prim.Native.Nat.{_≤_, _<_, _+_, _*_, _-_}
+use native.Mathlib.Omega.{arith}
+use borrow.Author.Needs.{needs}
+use Rattle.tables.proofs.keys_refusal.Statement.{statement}
+use Rattle.tables.proofs.keys_refusal.Tie as tie
+use Rattle.tables.proofs.keys_refusal.Reads as reads
+use Rattle.tables.proofs.keys_refusal.Lts as lts
+
+returns : tie.Need-returns
+unfolding keysRefusal
+returns c = simp (eq-eqb _ _ (c .if1 .taken))
+
+returns-2 : tie.Need-returns-2
+unfolding keysRefusal
+returns-2 c = simp (ne-eqb _ _ (c .before .if1 .left), lt-ltb _ _ (c .if2 .taken))
+
+returns-3 : tie.Need-returns-3
+unfolding keysRefusal
+returns-3 c = simp (ne-eqb _ _ (c .before .if1 .left), le-ltb _ _ (c .if2 .left))
+
+pub keys-refusal-spec : {M : Type 1} → statement M
+keys-refusal-spec = tie.close (tie.spec returns returns-2 returns-3)
