@@ -5,8 +5,10 @@ use mathlib.Core.Path.{_≡_, refl, sym, ap, _∙_}
 use mathlib.Core.Bool.{Bool, true, false}
 use native.Mathlib.Omega.{arith}
 use native.Mathlib.Nat.{not-suc-le-zero, le-of-suc-le-suc, pow-zero, pow-succ', div-one, div-div-eq-div-mul, div-eq-of-lt, mod-eq-of-lt, one-mul, lt-of-lt-of-le, pow-le-pow-right}
-use borrow.Author.Tests.{eqb-true, eqb-false, ne-eqb, eq-eqb}
-use lib.Dec.{eqb}
+use mathlib.Core.Logic.{inl, inr}
+use borrow.Author.Tests.{eqb-false, eq-eqb, ltb-true, ltb-false}
+use lib.Dec.{eqb, ltb}
+use Rattle.bounded.proofs.Truth.{bool, clash}
 use lib.Pow.{pow-lt}
 use Rattle.keys.specs.Keys.{member, within, adding}
 
@@ -17,6 +19,10 @@ two = omega arith
 pub high : (w m k : ℕ) → m < 2 ^ w → w ≤ k → member m k ≡ false
 unfolding member
 high w m k h l = rw (div-eq-of-lt {n = m} {m = 2 ^ k} (lt-of-lt-of-le h (pow-le-pow-right two l)))
+
+-- a member of a set of width w is below w
+pub low : (w m k : ℕ) → m < 2 ^ w → member m k ≡ true → k < w
+low w m k h e = elim (bool (ltb k w)) [ inl l ↦ ltb-true k w l | inr l ↦ clash e (high w m k h (ltb-false k w l)) ]
 
 pub all-within : (w m n : ℕ) → m < 2 ^ w → w ≤ n → within m n ≡ true
 unfolding within

@@ -2,7 +2,7 @@
 use Prim.Native.Nat.{ℕ, zero, suc, _+_}
 use mathlib.Core.Bool.{Bool, cond}
 use lib.Dec.{eqb, ltb}
-use Rattle.bounded.specs.Bounded.{anyBelow, firstBelow, leastBelow}
+use Rattle.bounded.specs.Bounded.{firstBelow, leastBelow}
 use Rattle.tables.specs.Sites.{siteCount}
 use Rattle.machine.specs.Parts.{placeOf}
 use Rattle.machine.specs.Rules.{nobody}
@@ -18,41 +18,28 @@ use Rattle.machine.specs.declared.Todo.the-variants.{Close, Deliver, Car
 abbrev pub nowhere : ℕ
 nowhere = 16
 
-abbrev pub closes : State → ℕ → ℕ → Bool
-closes st s t = eqb (closeRefusal st t s) 0
-
-abbrev pub delivers : State → ℕ → Bool
-delivers st s = eqb (deliverRefusal st s) 0
-
-abbrev pub carries : State → ℕ → ℕ → ℕ → Bool
-carries st t from to = eqb (carryRefusal st t from to) 0
-
--- of CARRY: some vote of f on t; some vote on t
-abbrev pub carriesFrom : State → ℕ → ℕ → Bool
-carriesFrom st t from = anyBelow (siteCount (st .tables)) (carries st t from)
-
-abbrev pub carriesSome : State → ℕ → Bool
-carriesSome st t = anyBelow (siteCount (st .tables)) (carriesFrom st t)
-
--- lowest site, then queue order; lowest site; lowest place, then from, then to
-unfoldable pub firstClosing : State → ℕ
-firstClosing st = leastBelow (siteCount (st .tables)) (λ s. anyBelow (st .tables .txns) (closes st s)) nowhere
-
+-- CLOSE: the lowest site, then queue order
 unfoldable pub closesFirst : State → ℕ → ℕ
-closesFirst st s = firstBelow (st .tables .txns) (placeOf st) (closes st s) nobody
+closesFirst st s = firstBelow (st .tables .txns) (placeOf st) (λ t. eqb (closeRefusal st t s) 0) nobody
 
+unfoldable pub firstClosing : State → ℕ
+firstClosing st = leastBelow (siteCount (st .tables)) (λ s. ltb (closesFirst st s) nobody) nowhere
+
+-- DELIVER: the lowest site
 unfoldable pub firstDelivering : State → ℕ
-firstDelivering st = leastBelow (siteCount (st .tables)) (delivers st) nowhere
+firstDelivering st = leastBelow (siteCount (st .tables)) (λ s. eqb (deliverRefusal st s) 0) nowhere
 
-unfoldable pub firstCarried : State → ℕ
-firstCarried st = firstBelow (st .tables .txns) (placeOf st) (carriesSome st) nobody
+-- CARRY: the lowest place, then from, then to
+unfoldable pub firstTo : State → ℕ → ℕ → ℕ
+firstTo st t from = leastBelow (siteCount (st .tables)) (λ to. eqb (carryRefusal st t from to) 0) nowhere
 
 unfoldable pub firstFrom : State → ℕ → ℕ
-firstFrom st t = leastBelow (siteCount (st .tables)) (carriesFrom st t) nowhere
+firstFrom st t = leastBelow (siteCount (st .tables)) (λ from. ltb (firstTo st t from) nowhere) nowhere
 
-unfoldable pub firstTo : State → ℕ → ℕ → ℕ
-firstTo st t from = leastBelow (siteCount (st .tables)) (carries st t from) nowhere
+unfoldable pub firstCarried : State → ℕ
+firstCarried st = firstBelow (st .tables .txns) (placeOf st) (λ t. ltb (firstFrom st t) nowhere) nobody
 
+-- the first step accepted
 unfoldable pub todo : State → Todo
 todo st =
     let s = firstClosing st in
@@ -63,13 +50,20 @@ todo st =
     let delivering = cond (ltb d nowhere) (Deliver d) carrying in
     cond (ltb s nowhere) (Close (closesFirst st s) s) delivering
 
+-- and what it leaves
+abbrev pub after : State → Todo → State
+after st (Close t s) = closeDone st t s .next
+after st (Deliver s) = deliverDone st s .next
+after st (Carry t from to) = carryDone st t from to .next
+after st Nothing = st
+
 -- at most f steps more, n having been taken
 unfoldable pub settleFor : ℕ → ℕ → State → Stepped
 settleFor zero n st = giving (answer.Settled n) st
 settleFor (suc f) n st = elim (todo st) [
-  | Close t s ↦ settleFor f (n + 1) (closeDone st t s .next)
-  | Deliver s ↦ settleFor f (n + 1) (deliverDone st s .next)
-  | Carry t from to ↦ settleFor f (n + 1) (carryDone st t from to .next)
+  | Close t s ↦ settleFor f (n + 1) (after st (Close t s))
+  | Deliver s ↦ settleFor f (n + 1) (after st (Deliver s))
+  | Carry t from to ↦ settleFor f (n + 1) (after st (Carry t from to))
   | Nothing ↦ giving (answer.Settled n) st
 ]
 

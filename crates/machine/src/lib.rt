@@ -15,8 +15,8 @@ ghost use Rattle.machine.specs.Rules.{atHead, waitsBy, nextAt, blocked, 
 ghost use Rattle.machine.specs.Usable.{countsFit, txnFits, usable};
 ghost use Rattle.machine.specs.Refusals.{readRefusal, submitRefusal, deliverRefusal, voteRefusal, carryRefusal, verdictRefusal, closeRefusal};
 ghost use Rattle.machine.specs.Effects.{readDone, nextPlace, submitDone, deliverDone, carryDone, committed, closeDone};
-ghost use Rattle.machine.specs.Settle.{settleDone};
-ghost use Rattle.machine.specs.Steps.{refused, stepOf};
+ghost use Rattle.machine.specs.Settle.{closesFirst, firstClosing, firstDelivering, firstTo, firstFrom, firstCarried, todo, after, settleDone};
+ghost use Rattle.machine.specs.Steps.{decided, stepOf};
 ghost use Rattle.machine.specs.Fresh.{startOf, freshOf};
 use tables::Tables;
 use tables::wide;
@@ -93,7 +93,7 @@ pub enum Todo {
 }
 
 // An answer's number and its two values.
-pub fn numbers(a: Answer) -> Numbers
+pub fn numbers_of(a: Answer) -> Numbers
     ensures { λ r. ⌜ r ≡ numbersOf a ⌝ }
 {
     match a {
@@ -203,6 +203,17 @@ fn comes_before(u: usize, q: u32, t: usize, p: u32) -> bool
     false
 }
 
+// The first value x of key k, where it is in the set m; else 0.
+fn held_value(m: u64, k: usize, x: u32) -> u32
+    requires { ⌜ k < 64 ⌝ }
+    ensures { λ r. ⌜ r ≡ cond (member m k) x 0 ⌝ }
+{
+    if keys::has_key(m, k as u8) {
+        return x;
+    }
+    0
+}
+
 impl State {
     // ---- the states that a step can run on
 
@@ -225,11 +236,11 @@ impl State {
         requires { ⌜ t < 128 ⌝ }
         ensures { λ r. ⌜ r ≡ txnFits (self .tables) t ⌝ }
     {
-        let r = wide(self.tables.nreads[t]);
+        let r = tables::count_at(&self.tables.nreads, t);
         if 8 < r {
             return false;
         }
-        let w = wide(self.tables.nwrites[t]);
+        let w = tables::count_at(&self.tables.nwrites, t);
         if 8 < w {
             return false;
         }
@@ -357,10 +368,10 @@ impl State {
         ensures { λ r. ⌜ r ≡ certify self t s ⌝ }
     {
         let m = self.keys_of(s);
-        let mut i = wide(self.tables.nreads[t]);
+        let mut i = tables::count_at(&self.tables.nreads, t);
         while 0 < i {
             i -= 1;
-            let k = self.tables.reads[t * 8 + i];
+            let k = tables::key_at(&self.tables.reads, t, i);
             if keys::has_key(m, k) {
                 if self.recorded[t * 8 + i] {
                     let Version(v) = self.versions[s * 64 + wide(k)];
@@ -383,7 +394,8 @@ impl State {
         ensures { λ r. ⌜ r ≡ voteOf self t s ⌝ }
     {
         let m = self.keys_of(s);
-        if tables::some_in(&self.tables.reads, t, wide(self.tables.nreads[t]), m) {
+        let n = tables::count_at(&self.tables.nreads, t);
+        if tables::some_in(&self.tables.reads, t, n, m) {
             return self.certified(t, s);
         }
         0
@@ -415,10 +427,11 @@ impl State {
         requires { ⌜ (t < self .tables .txns) × (s < siteCount (self .tables)) ⌝ }
         ensures { λ r. ⌜ r ≡ covered self t s ⌝ }
     {
-        let mut i = wide(self.tables.nreads[t]);
+        let mut i = tables::count_at(&self.tables.nreads, t);
         while 0 < i {
             i -= 1;
-            if self.covers_key(t, s, self.tables.reads[t * 8 + i]) {
+            let k = tables::key_at(&self.tables.reads, t, i);
+            if self.covers_key(t, s, k) {
                 continue;
             }
             return false;
@@ -452,7 +465,7 @@ impl State {
         requires { ⌜ (t < self .tables .txns) × (s < siteCount (self .tables)) ⌝ }
         ensures { λ r. ⌜ r ≡ verdict self t s ⌝ }
     {
-        if self.tables.nreads[t] == 0 {
+        if tables::count_at(&self.tables.nreads, t) == 0 {
             return 1;
         }
         if self.is_covered(t, s) {
@@ -471,10 +484,10 @@ impl State {
         ensures { λ r. ⌜ r ≡ roomAt self t s ⌝ }
     {
         let m = self.keys_of(s);
-        let mut i = wide(self.tables.nwrites[t]);
+        let mut i = tables::count_at(&self.tables.nwrites, t);
         while 0 < i {
             i -= 1;
-            let k = self.tables.writes[t * 8 + i];
+            let k = tables::key_at(&self.tables.writes, t, i);
             if keys::has_key(m, k) {
                 let Version(v) = self.versions[s * 64 + wide(k)];
                 if 4294967295 <= v {
@@ -491,7 +504,7 @@ impl State {
         requires { ⌜ t < self .tables .txns ⌝ }
         ensures { λ r. ⌜ r ≡ allBelow (readCount (self .tables) t) (recordedOf self t) ⌝ }
     {
-        let mut i = wide(self.tables.nreads[t]);
+        let mut i = tables::count_at(&self.tables.nreads, t);
         while 0 < i {
             i -= 1;
             if self.recorded[t * 8 + i] {
@@ -512,16 +525,17 @@ impl State {
             return 20;
         }
         let at = t as usize;
-        if self.tables.nreads[at] <= i {
+        let read = i as usize;
+        if tables::count_at(&self.tables.nreads, at) <= read {
             return 22;
         }
         let site = s as usize;
         if tables::sites_in(&self.tables.sizes, self.tables.groups) <= site {
             return 21;
         }
-        let read = at * 8 + i as usize;
-        if keys::has_key(self.keys_of(site), self.tables.reads[read]) {
-            if self.recorded[read] {
+        let k = tables::key_at(&self.tables.reads, at, read);
+        if keys::has_key(self.keys_of(site), k) {
+            if self.recorded[at * 8 + read] {
                 return 24;
             }
             return 0;
@@ -664,7 +678,8 @@ impl State {
         ensures { λ r. ⌜ r ≡ readDone self t i s ⌝ }
     {
         let read = t as usize * 8 + i as usize;
-        let at = s as usize * 64 + wide(self.tables.reads[read]);
+        let k = tables::key_at(&self.tables.reads, t as usize, i as usize);
+        let at = s as usize * 64 + wide(k);
         let version = self.versions[at];
         let value = self.values[at];
         let mut next = self;
@@ -752,17 +767,16 @@ impl State {
         ensures { λ r. ⌜ r ≡ committed self t s ⌝ }
     {
         let m = self.keys_of(s);
-        let n = wide(self.tables.nwrites[t]);
+        let n = tables::count_at(&self.tables.nwrites, t);
         let mut next = self;
         let mut i: usize = 0;
         while i < n {
-            let at = t * 8 + i;
+            let k = tables::key_at(&self.tables.writes, t, i);
+            let x = tables::value_at(&self.tables.gives, t, i);
             i += 1;
-            let k = self.tables.writes[at];
             if keys::has_key(m, k) {
                 let j = s * 64 + wide(k);
                 let Version(v) = self.versions[j];
-                let x = self.tables.gives[at];
                 next.versions[j] = Version(v + 1);
                 next.values[j] = x;
             }
@@ -791,6 +805,360 @@ impl State {
         Stepped {
             answer: Answer::Closed(verdict),
             next,
+        }
+    }
+
+    // ---- a step on a usable state
+
+    fn take_read(self, t: u8, i: u8, s: u8) -> Stepped
+        requires { ⌜ usable self ≡ true ⌝ }
+        ensures { λ r. ⌜ r ≡ decided self (Step.Read t i s) ⌝ }
+    {
+        let n = self.read_refusal(t, i, s);
+        if n == 0 {
+            return self.read_done(t, i, s);
+        }
+        Stepped {
+            answer: Answer::Refused(n),
+            next: self,
+        }
+    }
+
+    fn take_submit(self, t: u8) -> Stepped
+        requires { ⌜ usable self ≡ true ⌝ }
+        ensures { λ r. ⌜ r ≡ decided self (Step.Submit t) ⌝ }
+    {
+        let n = self.submit_refusal(t);
+        if n == 0 {
+            return self.submit_done(t);
+        }
+        Stepped {
+            answer: Answer::Refused(n),
+            next: self,
+        }
+    }
+
+    fn take_deliver(self, s: u8) -> Stepped
+        requires { ⌜ usable self ≡ true ⌝ }
+        ensures { λ r. ⌜ r ≡ decided self (Step.Deliver s) ⌝ }
+    {
+        let n = self.deliver_refusal(s);
+        if n == 0 {
+            return self.deliver_done(s);
+        }
+        Stepped {
+            answer: Answer::Refused(n),
+            next: self,
+        }
+    }
+
+    fn take_carry(self, t: u8, from: u8, to: u8) -> Stepped
+        requires { ⌜ usable self ≡ true ⌝ }
+        ensures { λ r. ⌜ r ≡ decided self (Step.Carry t «from» to) ⌝ }
+    {
+        let n = self.carry_refusal(t, from, to);
+        if n == 0 {
+            return self.carry_done(t, from, to);
+        }
+        Stepped {
+            answer: Answer::Refused(n),
+            next: self,
+        }
+    }
+
+    fn take_close(self, t: u8, s: u8) -> Stepped
+        requires { ⌜ usable self ≡ true ⌝ }
+        ensures { λ r. ⌜ r ≡ decided self (Step.Close t s) ⌝ }
+    {
+        let n = self.close_refusal(t, s);
+        if n == 0 {
+            return self.close_done(t, s);
+        }
+        Stepped {
+            answer: Answer::Refused(n),
+            next: self,
+        }
+    }
+
+    // A step on a state that is known to be usable.
+    pub fn take(self, x: Step) -> Stepped
+        requires { ⌜ usable self ≡ true ⌝ }
+        ensures { λ r. ⌜ r ≡ decided self x ⌝ }
+    {
+        match x {
+            Step::Read { t, i, s } => self.take_read(t, i, s),
+            Step::Submit(t) => self.take_submit(t),
+            Step::Deliver(s) => self.take_deliver(s),
+            Step::Carry { t, from, to } => self.take_carry(t, from, to),
+            Step::Close { t, s } => self.take_close(t, s),
+            Step::Settle => self.settle_done(),
+        }
+    }
+
+    // ---- SETTLE: the first step accepted among CLOSE, DELIVER and CARRY, until none is
+
+    // The first in queue order that can be closed at s, 128 for none.
+    fn closes_first(self, s: u8) -> u8
+        requires { ⌜ usable self ≡ true ⌝ }
+        ensures { λ r. ⌜ r ≡ closesFirst self s ⌝ }
+    {
+        let mut found = Found { t: 128, place: 0 };
+        let mut t: u8 = 0;
+        while t < self.tables.txns {
+            let Place(p) = self.places[wide(t)];
+            let n = self.close_refusal(t, s);
+            found = sooner(found, n == 0, t, p);
+            t += 1;
+        }
+        found.t
+    }
+
+    // The lowest site where one can be closed, 16 for none.
+    fn first_closing(self) -> u8
+        requires { ⌜ usable self ≡ true ⌝ }
+        ensures { λ r. ⌜ r ≡ firstClosing self ⌝ }
+    {
+        let n = tables::sites_in(&self.tables.sizes, self.tables.groups) as u8;
+        let mut s: u8 = 0;
+        while s < n {
+            if self.closes_first(s) < 128 {
+                return s;
+            }
+            s += 1;
+        }
+        16
+    }
+
+    // The lowest site where one can be delivered, 16 for none.
+    fn first_delivering(self) -> u8
+        requires { ⌜ usable self ≡ true ⌝ }
+        ensures { λ r. ⌜ r ≡ firstDelivering self ⌝ }
+    {
+        let n = tables::sites_in(&self.tables.sizes, self.tables.groups) as u8;
+        let mut s: u8 = 0;
+        while s < n {
+            if self.deliver_refusal(s) == 0 {
+                return s;
+            }
+            s += 1;
+        }
+        16
+    }
+
+    // The lowest site to which the vote of f on t can be carried, 16 for none.
+    fn first_to(self, t: u8, f: u8) -> u8
+        requires { ⌜ usable self ≡ true ⌝ }
+        ensures { λ r. ⌜ r ≡ firstTo self t f ⌝ }
+    {
+        let n = tables::sites_in(&self.tables.sizes, self.tables.groups) as u8;
+        let mut s: u8 = 0;
+        while s < n {
+            if self.carry_refusal(t, f, s) == 0 {
+                return s;
+            }
+            s += 1;
+        }
+        16
+    }
+
+    // The lowest site whose vote on t can be carried, 16 for none.
+    fn first_from(self, t: u8) -> u8
+        requires { ⌜ usable self ≡ true ⌝ }
+        ensures { λ r. ⌜ r ≡ firstFrom self t ⌝ }
+    {
+        let n = tables::sites_in(&self.tables.sizes, self.tables.groups) as u8;
+        let mut f: u8 = 0;
+        while f < n {
+            if self.first_to(t, f) < 16 {
+                return f;
+            }
+            f += 1;
+        }
+        16
+    }
+
+    // The lowest place of which a vote can be carried, 128 for none.
+    fn first_carried(self) -> u8
+        requires { ⌜ usable self ≡ true ⌝ }
+        ensures { λ r. ⌜ r ≡ firstCarried self ⌝ }
+    {
+        let mut found = Found { t: 128, place: 0 };
+        let mut t: u8 = 0;
+        while t < self.tables.txns {
+            let Place(p) = self.places[wide(t)];
+            let f = self.first_from(t);
+            found = sooner(found, f < 16, t, p);
+            t += 1;
+        }
+        found.t
+    }
+
+    // The step that SETTLE takes next.
+    fn next_step(self) -> Todo
+        requires { ⌜ usable self ≡ true ⌝ }
+        ensures { λ r. ⌜ r ≡ todo self ⌝ }
+    {
+        let s = self.first_closing();
+        if s < 16 {
+            return Todo::Close {
+                t: self.closes_first(s),
+                s,
+            };
+        }
+        let d = self.first_delivering();
+        if d < 16 {
+            return Todo::Deliver(d);
+        }
+        let t = self.first_carried();
+        if t < 128 {
+            let from = self.first_from(t);
+            return Todo::Carry {
+                t,
+                from,
+                to: self.first_to(t, from),
+            };
+        }
+        Todo::Nothing
+    }
+
+    // The state after that step.
+    fn after_step(self, x: Todo) -> State
+        requires { ⌜ (usable self ≡ true) × (x ≡ todo self) ⌝ }
+        ensures { λ r. ⌜ r ≡ after self x ⌝ }
+    {
+        match x {
+            Todo::Close { t, s } => {
+                let done = self.close_done(t, s);
+                done.next
+            }
+            Todo::Deliver(s) => {
+                let done = self.deliver_done(s);
+                done.next
+            }
+            Todo::Carry { t, from, to } => {
+                let done = self.carry_done(t, from, to);
+                done.next
+            }
+            Todo::Nothing => self,
+        }
+    }
+
+    fn settle_done(self) -> Stepped
+        requires { ⌜ usable self ≡ true ⌝ }
+        ensures { λ r. ⌜ r ≡ settleDone self ⌝ }
+    {
+        let mut st = self;
+        let mut n: u32 = 0;
+        while n < 34816 {
+            let x = st.next_step();
+            if let Todo::Nothing = x {
+                return Stepped {
+                    answer: Answer::Settled(n),
+                    next: st,
+                };
+            }
+            st = st.after_step(x);
+            n += 1;
+        }
+        Stepped {
+            answer: Answer::Settled(n),
+            next: st,
+        }
+    }
+
+    // ---- what a caller has: any state, any step, an answer
+
+    pub fn step(self, x: Step) -> Stepped
+        ensures { λ r. ⌜ r ≡ stepOf self x ⌝ }
+    {
+        if self.is_usable() {
+            return self.take(x);
+        }
+        Stepped {
+            answer: Answer::Refused(10),
+            next: self,
+        }
+    }
+
+    pub fn read(self, t: u8, i: u8, s: u8) -> Stepped
+        ensures { λ r. ⌜ r ≡ stepOf self (Step.Read t i s) ⌝ }
+    {
+        self.step(Step::Read { t, i, s })
+    }
+
+    pub fn submit(self, t: u8) -> Stepped
+        ensures { λ r. ⌜ r ≡ stepOf self (Step.Submit t) ⌝ }
+    {
+        self.step(Step::Submit(t))
+    }
+
+    pub fn deliver(self, s: u8) -> Stepped
+        ensures { λ r. ⌜ r ≡ stepOf self (Step.Deliver s) ⌝ }
+    {
+        self.step(Step::Deliver(s))
+    }
+
+    pub fn carry(self, t: u8, from: u8, to: u8) -> Stepped
+        ensures { λ r. ⌜ r ≡ stepOf self (Step.Carry t «from» to) ⌝ }
+    {
+        self.step(Step::Carry { t, from, to })
+    }
+
+    pub fn close(self, t: u8, s: u8) -> Stepped
+        ensures { λ r. ⌜ r ≡ stepOf self (Step.Close t s) ⌝ }
+    {
+        self.step(Step::Close { t, s })
+    }
+
+    pub fn settle(self) -> Stepped
+        ensures { λ r. ⌜ r ≡ stepOf self Step.Settle ⌝ }
+    {
+        self.step(Step::Settle)
+    }
+
+    // ---- fresh
+
+    // The state of these tables with nothing done.
+    fn start(tables: Tables) -> State
+        requires { ⌜ tables .groups ≤ 8 ⌝ }
+        ensures { λ r. ⌜ r ≡ startOf tables ⌝ }
+    {
+        let mut values = [0u32; 1024];
+        let mut j: usize = 0;
+        while j < 1024 {
+            let k = j % 64;
+            let m = tables::site_keys(&tables.sizes, &tables.masks, tables.groups, j / 64);
+            values[j] = held_value(m, k, tables.first[k]);
+            j += 1;
+        }
+        State {
+            tables,
+            versions: [Version(1); 1024],
+            values,
+            recorded: [false; 1024],
+            readversions: [Version(0); 1024],
+            readvalues: [0u32; 1024],
+            places: [Place(0); 128],
+            delivered: [false; 2048],
+            closed: [0u8; 2048],
+            cast: [0u8; 2048],
+            carried: [0u16; 2048],
+        }
+    }
+
+    pub fn fresh(tables: Tables) -> Fresh
+        ensures { λ r. ⌜ r ≡ freshOf tables ⌝ }
+    {
+        let n = tables.judged();
+        if n == 0 {
+            return Fresh {
+                number: 0,
+                state: State::start(tables),
+            };
+        }
+        Fresh {
+            number: n,
+            state: State::start(tables::no_tables()),
         }
     }
 }

@@ -3,7 +3,7 @@ ghost use mathlib.Core.Path.{_≡_};
 ghost use Prim.Native.Nat.{ℕ, _*_, _≤_, _<_};
 ghost use lib.ListN.{getD};
 ghost use Rattle.tables.specs.Empty.{noTables};
-ghost use Rattle.tables.specs.Lists.{inRow, twice, present, meets, readCount, writeCount, conflictIn};
+ghost use Rattle.tables.specs.Lists.{rowAt, inRow, twice, present, meets, readCount, writeCount, conflictIn};
 ghost use Rattle.tables.specs.Sites.{sitesIn, keysFrom};
 ghost use Rattle.tables.specs.Concern.{someIn, allIn, touches, inside, local};
 ghost use Rattle.bounded.specs.Bounded.{firstOf};
@@ -48,6 +48,30 @@ pub fn wide(x: u8) -> usize
     ensures { λ r. ⌜ (r ≡ x) × (r < 256) ⌝ }
 {
     x as usize
+}
+
+// How many keys transaction t reads, or writes.
+pub fn count_at(counts: &[u8; 128], t: usize) -> usize
+    requires { ⌜ t < 128 ⌝ }
+    ensures { λ r. ⌜ (r ≡ getD (now (counts .entry)) t 0) × (r < 256) ⌝ }
+{
+    wide(counts[t])
+}
+
+// The i-th key of row t.
+pub fn key_at(row: &[u8; 1024], t: usize, i: usize) -> u8
+    requires { ⌜ (t < 128) × (i < 8) ⌝ }
+    ensures { λ r. ⌜ r ≡ rowAt (now (row .entry)) t i ⌝ }
+{
+    row[t * 8 + i]
+}
+
+// The i-th value of row t.
+pub fn value_at(row: &[u32; 1024], t: usize, i: usize) -> u32
+    requires { ⌜ (t < 128) × (i < 8) ⌝ }
+    ensures { λ r. ⌜ r ≡ rowAt (now (row .entry)) t i ⌝ }
+{
+    row[t * 8 + i]
 }
 
 // How many sites the first n groups have.

@@ -1,16 +1,13 @@
-use Rattle.tables.specs.Concern.{allIn}
-use Rattle.bounded.specs.Bounded.{allBelow}
-use Rattle.bounded.proofs.Laws.{all-down}
-use borrow.Author.Tests.{eq-eqb, ne-eqb, le-leb, lt-leb, le-ltb, lt-ltb}
-use mathlib.Core.Path.{_≡_, refl, sym, ap, _∙_}
-use Prim.Native.Nat.{_≤_, _<_, _+_, _*_, _-_}
+-- `tables::all_in` meets its contract. The loop counts down, and `allIn` of the first i keys is that of all n.
+use mathlib.Core.Path.{_≡_, refl}
+use Prim.Native.Nat.{_≤_}
 use native.Mathlib.Omega.{arith}
 use borrow.Author.Needs.{needs}
+use Rattle.bounded.specs.Bounded.{allBelow}
+use Rattle.bounded.proofs.Laws.{all-down}
+use Rattle.tables.specs.Concern.{allIn}
 use Rattle.tables.proofs.all_in.Statement.{statement}
 use Rattle.tables.proofs.all_in.Tie as tie
-use Rattle.tables.proofs.all_in.Reads as reads
-use Rattle.tables.proofs.all_in.Lts as lts
-use Rattle.keys.proofs.has_key.Reads as has-key-reads
 
 abbrev Inv-loop : tie.InvT-loop
 Inv-loop row t n m i₀ i = (i ≤ n) × (allIn row t i m ≡ allIn row t n m)

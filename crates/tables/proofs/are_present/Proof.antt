@@ -1,15 +1,14 @@
-use Rattle.tables.specs.Lists.{present}
+-- `tables::are_present` meets its contract. The loop counts down, and `present` of the first i keys is that of all n.
+use mathlib.Core.Path.{_≡_, refl}
+use Prim.Native.Nat.{_≤_}
+use native.Mathlib.Omega.{arith}
+use borrow.Author.Tests.{le-ltb, lt-ltb}
+use borrow.Author.Needs.{needs}
 use Rattle.bounded.specs.Bounded.{allBelow}
 use Rattle.bounded.proofs.Laws.{all-down}
-use borrow.Author.Tests.{eq-eqb, ne-eqb, le-leb, lt-leb, le-ltb, lt-ltb}
-use mathlib.Core.Path.{_≡_, refl, sym, ap, _∙_}
-use Prim.Native.Nat.{_≤_, _<_, _+_, _*_, _-_}
-use native.Mathlib.Omega.{arith}
-use borrow.Author.Needs.{needs}
+use Rattle.tables.specs.Lists.{present}
 use Rattle.tables.proofs.are_present.Statement.{statement}
 use Rattle.tables.proofs.are_present.Tie as tie
-use Rattle.tables.proofs.are_present.Reads as reads
-use Rattle.tables.proofs.are_present.Lts as lts
 
 abbrev Inv-loop : tie.InvT-loop
 Inv-loop row t n keys i₀ i = (i ≤ n) × (present row t i keys ≡ present row t n keys)

@@ -1,11 +1,8 @@
-use native.Mathlib.Omega.{arith}
+-- `tables::conflict` meets its contract. The two calls of `meet` are the two sides of `conflictIn`.
 use borrow.Author.Needs.{needs}
+use Rattle.tables.specs.Lists.{conflictIn}
 use Rattle.tables.proofs.conflict.Statement.{statement}
 use Rattle.tables.proofs.conflict.Tie as tie
-use Rattle.tables.proofs.conflict.Reads as reads
-use Rattle.tables.proofs.conflict.Lts as lts
-use Rattle.tables.proofs.meet.Reads as meet-reads
-use Rattle.tables.proofs.wide.Reads as wide-reads
 
 element-copy-out-wide : tie.Need-element-copy-out-wide
 element-copy-out-wide c = search needs
@@ -23,7 +20,8 @@ meet-requires : tie.Need-meet-requires
 meet-requires c κs = search needs
 
 returns : tie.Need-returns
-returns c = search needs
+unfolding conflictIn
+returns c = rw (← c .before .before .before .before .wide .ensures .0, ← c .before .before .wide2 .ensures .0, ← c .before .meet .ensures, c .if1 .taken)
 
 element-copy-out-wide-3 : tie.Need-element-copy-out-wide-3
 element-copy-out-wide-3 c = search needs
@@ -41,7 +39,8 @@ meet-requires-2 : tie.Need-meet-requires-2
 meet-requires-2 c κs = search needs
 
 returns-2 : tie.Need-returns-2
-returns-2 c = search needs
+unfolding conflictIn
+returns-2 c = rw (← c .before .before .before .before .before .before .before .before .before .wide .ensures .0, ← c .before .before .before .before .before .before .before .wide2 .ensures .0, ← c .before .before .before .before .before .before .meet .ensures, c .before .before .before .before .before .if1 .left, ← c .before .before .before .wide3 .ensures .0, ← c .before .wide4 .ensures .0) (c .meet2 .ensures)
 
 pub conflict-spec : {M : Type 1} → statement M
 conflict-spec =

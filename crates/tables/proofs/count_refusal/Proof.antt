@@ -1,13 +1,8 @@
-use Rattle.tables.specs.Judge.{countRefusal}
+-- `tables::count_refusal` meets its contract. Each arm's tests are those of `countRefusal`, in its order.
 use borrow.Author.Tests.{eq-eqb, ne-eqb, le-leb, lt-leb, le-ltb, lt-ltb}
-use mathlib.Core.Path.{_≡_, refl, sym, ap, _∙_}
-use Prim.Native.Nat.{_≤_, _<_, _+_, _*_, _-_}
-use native.Mathlib.Omega.{arith}
-use borrow.Author.Needs.{needs}
+use Rattle.tables.specs.Judge.{countRefusal}
 use Rattle.tables.proofs.count_refusal.Statement.{statement}
 use Rattle.tables.proofs.count_refusal.Tie as tie
-use Rattle.tables.proofs.count_refusal.Reads as reads
-use Rattle.tables.proofs.count_refusal.Lts as lts
 
 returns : tie.Need-returns
 unfolding countRefusal

@@ -1,14 +1,9 @@
-use Rattle.tables.specs.Judge.{sizeRefusal}
+-- `tables::group_refusal` meets its contract. Each arm's tests are those of `sizeRefusal`, in its order.
 use borrow.Author.Tests.{eq-eqb, ne-eqb, le-leb, lt-leb, le-ltb, lt-ltb}
-use mathlib.Core.Path.{_≡_, refl, sym, ap, _∙_}
-use Prim.Native.Nat.{_≤_, _<_, _+_, _*_, _-_}
-use native.Mathlib.Omega.{arith}
 use borrow.Author.Needs.{needs}
+use Rattle.tables.specs.Judge.{sizeRefusal}
 use Rattle.tables.proofs.group_refusal.Statement.{statement}
 use Rattle.tables.proofs.group_refusal.Tie as tie
-use Rattle.tables.proofs.group_refusal.Reads as reads
-use Rattle.tables.proofs.group_refusal.Lts as lts
-use Rattle.keys.proofs.keys_below.Reads as keys-below-reads
 
 returns : tie.Need-returns
 unfolding sizeRefusal

@@ -1,15 +1,14 @@
-use Rattle.tables.specs.Lists.{inRow}
+-- `tables::in_row` meets its contract. The loop counts down, and `inRow` of the first i keys is that of all n.
+use mathlib.Core.Path.{_≡_, refl}
+use Prim.Native.Nat.{_≤_}
+use native.Mathlib.Omega.{arith}
+use borrow.Author.Tests.{eq-eqb, ne-eqb}
+use borrow.Author.Needs.{needs}
 use Rattle.bounded.specs.Bounded.{anyBelow}
 use Rattle.bounded.proofs.Laws.{any-down}
-use borrow.Author.Tests.{eq-eqb, ne-eqb, le-leb, lt-leb, le-ltb, lt-ltb}
-use mathlib.Core.Path.{_≡_, refl, sym, ap, _∙_}
-use Prim.Native.Nat.{_≤_, _<_, _+_, _*_, _-_}
-use native.Mathlib.Omega.{arith}
-use borrow.Author.Needs.{needs}
+use Rattle.tables.specs.Lists.{inRow}
 use Rattle.tables.proofs.in_row.Statement.{statement}
 use Rattle.tables.proofs.in_row.Tie as tie
-use Rattle.tables.proofs.in_row.Reads as reads
-use Rattle.tables.proofs.in_row.Lts as lts
 
 abbrev Inv-loop : tie.InvT-loop
 Inv-loop row t n k i₀ i = (i ≤ n) × (inRow row t i k ≡ inRow row t n k)

@@ -1,15 +1,8 @@
-use Rattle.tables.specs.Concern.{inside}
-use borrow.Author.Tests.{eq-eqb, ne-eqb, le-leb, lt-leb, le-ltb, lt-ltb}
-use mathlib.Core.Path.{_≡_, refl, sym, ap, _∙_}
-use Prim.Native.Nat.{_≤_, _<_, _+_, _*_, _-_}
-use native.Mathlib.Omega.{arith}
+-- `tables::is_inside` meets its contract. The two calls of `all_in` are the two sides of `inside`.
 use borrow.Author.Needs.{needs}
+use Rattle.tables.specs.Concern.{inside}
 use Rattle.tables.proofs.is_inside.Statement.{statement}
 use Rattle.tables.proofs.is_inside.Tie as tie
-use Rattle.tables.proofs.is_inside.Reads as reads
-use Rattle.tables.proofs.is_inside.Lts as lts
-use Rattle.tables.proofs.all_in.Reads as all-in-reads
-use Rattle.tables.proofs.wide.Reads as wide-reads
 
 element-copy-out-wide : tie.Need-element-copy-out-wide
 element-copy-out-wide c = search needs

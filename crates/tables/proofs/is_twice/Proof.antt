@@ -1,16 +1,13 @@
-use Rattle.tables.specs.Lists.{twice}
-use Rattle.bounded.specs.Bounded.{anyBelow}
-use Rattle.bounded.proofs.Laws.{any-down}
-use borrow.Author.Tests.{eq-eqb, ne-eqb, le-leb, lt-leb, le-ltb, lt-ltb}
-use mathlib.Core.Path.{_≡_, refl, sym, ap, _∙_}
-use Prim.Native.Nat.{_≤_, _<_, _+_, _*_, _-_}
+-- `tables::is_twice` meets its contract. The loop counts down, and `twice` of the first i keys is that of all n.
+use mathlib.Core.Path.{_≡_, refl}
+use Prim.Native.Nat.{_≤_}
 use native.Mathlib.Omega.{arith}
 use borrow.Author.Needs.{needs}
+use Rattle.bounded.specs.Bounded.{anyBelow}
+use Rattle.bounded.proofs.Laws.{any-down}
+use Rattle.tables.specs.Lists.{twice}
 use Rattle.tables.proofs.is_twice.Statement.{statement}
 use Rattle.tables.proofs.is_twice.Tie as tie
-use Rattle.tables.proofs.is_twice.Reads as reads
-use Rattle.tables.proofs.is_twice.Lts as lts
-use Rattle.tables.proofs.in_row.Reads as in-row-reads
 
 abbrev Inv-loop : tie.InvT-loop
 Inv-loop row t n i₀ i = (i ≤ n) × (twice row t i ≡ twice row t n)

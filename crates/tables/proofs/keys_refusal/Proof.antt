@@ -1,13 +1,8 @@
+-- `tables::keys_refusal` meets its contract. Each arm's tests are those of `keysRefusal`, in its order.
+use borrow.Author.Tests.{eq-eqb, ne-eqb, le-ltb, lt-ltb}
 use Rattle.tables.specs.Judge.{keysRefusal}
-use borrow.Author.Tests.{eq-eqb, ne-eqb, le-leb, lt-leb, le-ltb, lt-ltb}
-use mathlib.Core.Path.{_≡_, refl, sym, ap, _∙_}
-use Prim.Native.Nat.{_≤_, _<_, _+_, _*_, _-_}
-use native.Mathlib.Omega.{arith}
-use borrow.Author.Needs.{needs}
 use Rattle.tables.proofs.keys_refusal.Statement.{statement}
 use Rattle.tables.proofs.keys_refusal.Tie as tie
-use Rattle.tables.proofs.keys_refusal.Reads as reads
-use Rattle.tables.proofs.keys_refusal.Lts as lts
 
 returns : tie.Need-returns
 unfolding keysRefusal

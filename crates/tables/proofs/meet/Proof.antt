@@ -1,16 +1,13 @@
-use Rattle.tables.specs.Lists.{meets}
-use Rattle.bounded.specs.Bounded.{anyBelow}
-use Rattle.bounded.proofs.Laws.{any-down}
-use borrow.Author.Tests.{eq-eqb, ne-eqb, le-leb, lt-leb, le-ltb, lt-ltb}
-use mathlib.Core.Path.{_≡_, refl, sym, ap, _∙_}
-use Prim.Native.Nat.{_≤_, _<_, _+_, _*_, _-_}
+-- `tables::meet` meets its contract. The loop counts down, and `meets` of the first i keys is that of all n.
+use mathlib.Core.Path.{_≡_, refl}
+use Prim.Native.Nat.{_≤_}
 use native.Mathlib.Omega.{arith}
 use borrow.Author.Needs.{needs}
+use Rattle.bounded.specs.Bounded.{anyBelow}
+use Rattle.bounded.proofs.Laws.{any-down}
+use Rattle.tables.specs.Lists.{meets}
 use Rattle.tables.proofs.meet.Statement.{statement}
 use Rattle.tables.proofs.meet.Tie as tie
-use Rattle.tables.proofs.meet.Reads as reads
-use Rattle.tables.proofs.meet.Lts as lts
-use Rattle.tables.proofs.in_row.Reads as in-row-reads
 
 abbrev Inv-loop : tie.InvT-loop
 Inv-loop row t n other u m i₀ i = (i ≤ n) × (meets row t i other u m ≡ meets row t n other u m)

@@ -1,10 +1,8 @@
-use Rattle.tables.specs.Empty.{noTables}
-use native.Mathlib.Omega.{arith}
+-- `tables::no_tables` meets its contract. The literal is `noTables`.
 use borrow.Author.Needs.{needs}
+use Rattle.tables.specs.Empty.{noTables}
 use Rattle.tables.proofs.no_tables.Statement.{statement}
 use Rattle.tables.proofs.no_tables.Tie as tie
-use Rattle.tables.proofs.no_tables.Reads as reads
-use Rattle.tables.proofs.no_tables.Lts as lts
 
 returns : tie.Need-returns
 unfolding noTables

@@ -1,15 +1,13 @@
-use Rattle.tables.proofs.Laws.{keys-turn}
-use Rattle.tables.specs.Sites.{keysFrom}
-use borrow.Author.Tests.{eq-eqb, ne-eqb, le-leb, lt-leb, le-ltb, lt-ltb}
-use mathlib.Core.Path.{_≡_, refl, sym, ap, _∙_}
-use Prim.Native.Nat.{_≤_, _<_, _+_, _*_, _-_}
+-- `tables::site_keys` meets its contract. The keys of the site that is `left` sites after the start of group g are those asked for; `keys-turn` is one turn.
+use mathlib.Core.Path.{_≡_}
+use Prim.Native.Nat.{_≤_, _-_}
 use native.Mathlib.Omega.{arith}
+use borrow.Author.Tests.{le-ltb, lt-ltb}
 use borrow.Author.Needs.{needs}
+use Rattle.tables.specs.Sites.{keysFrom}
+use Rattle.tables.proofs.Laws.{keys-turn}
 use Rattle.tables.proofs.site_keys.Statement.{statement}
 use Rattle.tables.proofs.site_keys.Tie as tie
-use Rattle.tables.proofs.site_keys.Reads as reads
-use Rattle.tables.proofs.site_keys.Lts as lts
-use Rattle.tables.proofs.wide.Reads as wide-reads
 
 abbrev Inv-loop : tie.InvT-loop
 Inv-loop sizes masks groups s left₀ g₀ left g = (g ≤ groups) × (keysFrom (groups - g) g sizes masks left ≡ keysFrom groups 0 sizes masks s)

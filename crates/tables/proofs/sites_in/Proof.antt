@@ -1,16 +1,13 @@
-use Rattle.tables.specs.Sites.{sitesIn}
-use Rattle.bounded.specs.Bounded.{sumBelow}
-use Rattle.bounded.proofs.Laws.{sum-up}
-use borrow.Author.Tests.{eq-eqb, ne-eqb, le-leb, lt-leb, le-ltb, lt-ltb}
-use mathlib.Core.Path.{_≡_, refl, sym, ap, _∙_}
-use Prim.Native.Nat.{_≤_, _<_, _+_, _*_, _-_}
+-- `tables::sites_in` meets its contract. The sum is that of the first g sizes, each at most 255.
+use mathlib.Core.Path.{_≡_, refl}
+use Prim.Native.Nat.{_≤_, _*_, _-_}
 use native.Mathlib.Omega.{arith}
 use borrow.Author.Needs.{needs}
+use Rattle.bounded.specs.Bounded.{sumBelow}
+use Rattle.bounded.proofs.Laws.{sum-up}
+use Rattle.tables.specs.Sites.{sitesIn}
 use Rattle.tables.proofs.sites_in.Statement.{statement}
 use Rattle.tables.proofs.sites_in.Tie as tie
-use Rattle.tables.proofs.sites_in.Reads as reads
-use Rattle.tables.proofs.sites_in.Lts as lts
-use Rattle.tables.proofs.wide.Reads as wide-reads
 
 abbrev Inv-loop : tie.InvT-loop
 Inv-loop sizes n sum₀ g₀ sum g = (g ≤ n) × (sum ≡ sitesIn sizes g) × (sum ≤ 255 * g)

@@ -1,17 +1,13 @@
-use Rattle.tables.specs.Judge.{someGroup}
-use Rattle.bounded.specs.Bounded.{anyBelow}
-use Rattle.bounded.proofs.Laws.{any-down}
-use borrow.Author.Tests.{eq-eqb, ne-eqb, le-leb, lt-leb, le-ltb, lt-ltb}
-use mathlib.Core.Path.{_≡_, refl, sym, ap, _∙_}
-use Prim.Native.Nat.{_≤_, _<_, _+_, _*_, _-_}
+-- `tables::some_group` meets its contract. The loop counts down, and `someGroup` of the first g groups is that of all n.
+use mathlib.Core.Path.{_≡_}
+use Prim.Native.Nat.{_≤_}
 use native.Mathlib.Omega.{arith}
 use borrow.Author.Needs.{needs}
+use Rattle.bounded.specs.Bounded.{anyBelow}
+use Rattle.bounded.proofs.Laws.{any-down}
+use Rattle.tables.specs.Judge.{someGroup}
 use Rattle.tables.proofs.some_group.Statement.{statement}
 use Rattle.tables.proofs.some_group.Tie as tie
-use Rattle.tables.proofs.some_group.Reads as reads
-use Rattle.tables.proofs.some_group.Lts as lts
-use Rattle.keys.proofs.has_key.Reads as has-key-reads
-use Rattle.tables.proofs.wide.Reads as wide-reads
 
 abbrev Inv-loop : tie.InvT-loop
 Inv-loop masks n k g₀ g = (g ≤ n) × (someGroup masks g k ≡ someGroup masks n k)

@@ -1,16 +1,13 @@
-use Rattle.tables.specs.Concern.{someIn}
-use Rattle.bounded.specs.Bounded.{anyBelow}
-use Rattle.bounded.proofs.Laws.{any-down}
-use borrow.Author.Tests.{eq-eqb, ne-eqb, le-leb, lt-leb, le-ltb, lt-ltb}
-use mathlib.Core.Path.{_≡_, refl, sym, ap, _∙_}
-use Prim.Native.Nat.{_≤_, _<_, _+_, _*_, _-_}
+-- `tables::some_in` meets its contract. The loop counts down, and `someIn` of the first i keys is that of all n.
+use mathlib.Core.Path.{_≡_, refl}
+use Prim.Native.Nat.{_≤_}
 use native.Mathlib.Omega.{arith}
 use borrow.Author.Needs.{needs}
+use Rattle.bounded.specs.Bounded.{anyBelow}
+use Rattle.bounded.proofs.Laws.{any-down}
+use Rattle.tables.specs.Concern.{someIn}
 use Rattle.tables.proofs.some_in.Statement.{statement}
 use Rattle.tables.proofs.some_in.Tie as tie
-use Rattle.tables.proofs.some_in.Reads as reads
-use Rattle.tables.proofs.some_in.Lts as lts
-use Rattle.keys.proofs.has_key.Reads as has-key-reads
 
 abbrev Inv-loop : tie.InvT-loop
 Inv-loop row t n m i₀ i = (i ≤ n) × (someIn row t i m ≡ someIn row t n m)

@@ -1,15 +1,8 @@
-use Rattle.tables.specs.Concern.{touches}
-use borrow.Author.Tests.{eq-eqb, ne-eqb, le-leb, lt-leb, le-ltb, lt-ltb}
-use mathlib.Core.Path.{_≡_, refl, sym, ap, _∙_}
-use Prim.Native.Nat.{_≤_, _<_, _+_, _*_, _-_}
-use native.Mathlib.Omega.{arith}
+-- `tables::touch` meets its contract. The two calls of `some_in` are the two sides of `touches`.
 use borrow.Author.Needs.{needs}
+use Rattle.tables.specs.Concern.{touches}
 use Rattle.tables.proofs.touch.Statement.{statement}
 use Rattle.tables.proofs.touch.Tie as tie
-use Rattle.tables.proofs.touch.Reads as reads
-use Rattle.tables.proofs.touch.Lts as lts
-use Rattle.tables.proofs.some_in.Reads as some-in-reads
-use Rattle.tables.proofs.wide.Reads as wide-reads
 
 element-copy-out-wide : tie.Need-element-copy-out-wide
 element-copy-out-wide c = search needs

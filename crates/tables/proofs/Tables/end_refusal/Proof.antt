@@ -1,17 +1,13 @@
-use Rattle.tables.specs.Judge.{someGroup, endRefusal}
-use Rattle.bounded.specs.Bounded.{allBelow}
-use Rattle.bounded.proofs.Laws.{all-down}
-use mathlib.Core.Bool.{cond}
-use borrow.Author.Tests.{eq-eqb, ne-eqb, le-leb, lt-leb, le-ltb, lt-ltb}
-use mathlib.Core.Path.{_≡_, refl, sym, ap, _∙_}
-use Prim.Native.Nat.{_≤_, _<_, _+_, _*_, _-_}
+-- `tables::Tables::end_refusal` meets its contract. The loop counts down from the number of keys, and whether groups hold all keys below k is whether they hold all.
+use mathlib.Core.Path.{_≡_, refl}
+use Prim.Native.Nat.{_≤_}
 use native.Mathlib.Omega.{arith}
 use borrow.Author.Needs.{needs}
+use Rattle.bounded.specs.Bounded.{allBelow}
+use Rattle.bounded.proofs.Laws.{all-down}
+use Rattle.tables.specs.Judge.{someGroup, endRefusal}
 use Rattle.tables.proofs.Tables.end_refusal.Statement.{statement}
 use Rattle.tables.proofs.Tables.end_refusal.Tie as tie
-use Rattle.tables.proofs.Tables.end_refusal.Reads as reads
-use Rattle.tables.proofs.Tables.end_refusal.Lts as lts
-use Rattle.tables.proofs.some_group.Reads as some-group-reads
 
 abbrev Inv-loop : tie.InvT-loop
 Inv-loop self k₀ k = (k ≤ self .keys) × (allBelow k (someGroup (self .masks) (self .groups)) ≡ allBelow (self .keys) (someGroup (self .masks) (self .groups)))

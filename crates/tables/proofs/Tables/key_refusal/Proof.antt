@@ -1,12 +1,8 @@
-use native.Mathlib.Omega.{arith}
+-- `tables::Tables::key_refusal` meets its contract. Each arm's tests are those of `keyRefusal`, in its order.
 use borrow.Author.Needs.{needs}
+use Rattle.tables.specs.Judge.{keyRefusal}
 use Rattle.tables.proofs.Tables.key_refusal.Statement.{statement}
 use Rattle.tables.proofs.Tables.key_refusal.Tie as tie
-use Rattle.tables.proofs.Tables.key_refusal.Reads as reads
-use Rattle.tables.proofs.Tables.key_refusal.Lts as lts
-use Rattle.tables.proofs.are_present.Reads as are-present-reads
-use Rattle.tables.proofs.is_twice.Reads as is-twice-reads
-use Rattle.tables.proofs.wide.Reads as wide-reads
 
 element-copy-out-wide : tie.Need-element-copy-out-wide
 element-copy-out-wide c = search needs
@@ -30,22 +26,27 @@ is-twice-requires : tie.Need-is-twice-requires
 is-twice-requires c κs = search needs
 
 returns : tie.Need-returns
-returns c = search needs
+unfolding keyRefusal
+returns c = rw (← c .before .before .before .before .before .before .before .before .before .before .before .before .before .before .wide .ensures .0, ← c .before .before .before .before .before .before .before .before .before .before .before .before .wide2 .ensures .0, ← c .before .before .before .before .before .before .before .before .before .are-present .ensures, c .before .before .before .before .before .before .before .before .if1 .taken, ← c .before .before .before .before .before .are-present2 .ensures, c .before .before .before .before .if2 .taken, ← c .before .is-twice .ensures, c .if3 .taken)
 
 is-twice-requires-2 : tie.Need-is-twice-requires-2
 is-twice-requires-2 c κs = search needs
 
 returns-2 : tie.Need-returns-2
-returns-2 c = search needs
+unfolding keyRefusal
+returns-2 c = rw (← c .before .before .before .before .before .before .before .before .before .before .before .before .before .before .before .before .before .before .wide .ensures .0, ← c .before .before .before .before .before .before .before .before .before .before .before .before .before .before .before .before .wide2 .ensures .0, ← c .before .before .before .before .before .before .before .before .before .before .before .before .before .are-present .ensures, c .before .before .before .before .before .before .before .before .before .before .before .before .if1 .taken, ← c .before .before .before .before .before .before .before .before .before .are-present2 .ensures, c .before .before .before .before .before .before .before .before .if2 .taken, ← c .before .before .before .before .before .is-twice .ensures, c .before .before .before .before .if3 .left, ← c .before .is-twice2 .ensures, c .if4 .taken)
 
 returns-3 : tie.Need-returns-3
-returns-3 c = search needs
+unfolding keyRefusal
+returns-3 c = rw (← c .before .before .before .before .before .before .before .before .before .before .before .before .before .before .before .before .before .before .wide .ensures .0, ← c .before .before .before .before .before .before .before .before .before .before .before .before .before .before .before .before .wide2 .ensures .0, ← c .before .before .before .before .before .before .before .before .before .before .before .before .before .are-present .ensures, c .before .before .before .before .before .before .before .before .before .before .before .before .if1 .taken, ← c .before .before .before .before .before .before .before .before .before .are-present2 .ensures, c .before .before .before .before .before .before .before .before .if2 .taken, ← c .before .before .before .before .before .is-twice .ensures, c .before .before .before .before .if3 .left, ← c .before .is-twice2 .ensures, c .if4 .left)
 
 returns-4 : tie.Need-returns-4
-returns-4 c = search needs
+unfolding keyRefusal
+returns-4 c = rw (← c .before .before .before .before .before .before .before .before .before .before .wide .ensures .0, ← c .before .before .before .before .before .before .before .before .wide2 .ensures .0, ← c .before .before .before .before .before .are-present .ensures, c .before .before .before .before .if1 .taken, ← c .before .are-present2 .ensures, c .if2 .left)
 
 returns-5 : tie.Need-returns-5
-returns-5 c = search needs
+unfolding keyRefusal
+returns-5 c = rw (← c .before .before .before .before .before .before .wide .ensures .0, ← c .before .are-present .ensures, c .if1 .left)
 
 pub key-refusal-spec : {M : Type 1} → statement M
 key-refusal-spec =

@@ -1,15 +1,16 @@
+-- `tables::Tables::txn_refusal` meets its contract. Counts that are not refused are at most eight, so the keys can be judged; a refusal of the counts stands before that of the keys.
+use mathlib.Core.Path.{sym, _∙_}
 use native.Mathlib.Omega.{arith}
+use borrow.Author.Tests.{le-leb}
 use borrow.Author.Needs.{needs}
+use Rattle.tables.specs.Judge.{txnRefusal, countRefusal}
+use Rattle.tables.proofs.Laws.{else-keep, count-low}
 use Rattle.tables.proofs.Tables.txn_refusal.Statement.{statement}
 use Rattle.tables.proofs.Tables.txn_refusal.Tie as tie
-use Rattle.tables.proofs.Tables.txn_refusal.Reads as reads
-use Rattle.tables.proofs.Tables.txn_refusal.Lts as lts
-use Rattle.tables.proofs.Tables.key_refusal.Reads as key-refusal-reads
-use Rattle.tables.proofs.count_refusal.Reads as count-refusal-reads
-use Rattle.tables.proofs.wide.Reads as wide-reads
 
 returns : tie.Need-returns
-returns c = search needs
+unfolding txnRefusal countRefusal
+returns c = simp (le-leb _ _ (c .if1 .taken))
 
 wide-requires : tie.Need-wide-requires
 wide-requires c κs = search needs
@@ -24,13 +25,15 @@ count-refusal-requires : tie.Need-count-refusal-requires
 count-refusal-requires c κs = search needs
 
 key-refusal-requires : tie.Need-key-refusal-requires
-key-refusal-requires c κs = search needs
+key-refusal-requires c κs = (omega arith, count-low _ _ _ (sym (c .before .count-refusal .ensures) ∙ c .if2 .taken))
 
 returns-2 : tie.Need-returns-2
-returns-2 c = search needs
+unfolding txnRefusal
+returns-2 c = rw (← (rw (c .before .before .before .before .before .wide .ensures .0) at (c .before .before .count-refusal .ensures)), c .before .if2 .taken) (rw (c .before .before .before .before .before .wide .ensures .0) at (c .key-refusal .ensures))
 
 returns-3 : tie.Need-returns-3
-returns-3 c = search needs
+unfolding txnRefusal
+returns-3 c = rw (← (rw (c .before .before .before .before .wide .ensures .0) at (c .before .count-refusal .ensures))) (sym (else-keep _ _ (c .if2 .left)))
 
 pub txn-refusal-spec : {M : Type 1} → statement M
 txn-refusal-spec =

@@ -1,16 +1,14 @@
-use Rattle.tables.specs.Judge.{txnRefusal}
-use Rattle.bounded.specs.Bounded.{firstOf}
-use Rattle.bounded.proofs.Laws.{of-up, of-stop}
-use borrow.Author.Tests.{eq-eqb, ne-eqb, le-leb, lt-leb, le-ltb, lt-ltb}
-use mathlib.Core.Path.{_≡_, refl, sym, ap, _∙_}
-use Prim.Native.Nat.{_≤_, _<_, _+_, _*_, _-_}
+-- `tables::Tables::txns_refusal` meets its contract. No transaction below t is refused, and `stops` takes the first refusal out of the loop.
+use mathlib.Core.Path.{_≡_, refl, sym}
+use Prim.Native.Nat.{_≤_, _-_}
 use native.Mathlib.Omega.{arith}
 use borrow.Author.Needs.{needs}
+use Rattle.bounded.specs.Bounded.{firstOf}
+use Rattle.bounded.proofs.Laws.{of-up}
+use Rattle.tables.specs.Judge.{txnRefusal}
+use Rattle.tables.proofs.Laws.{stops}
 use Rattle.tables.proofs.Tables.txns_refusal.Statement.{statement}
 use Rattle.tables.proofs.Tables.txns_refusal.Tie as tie
-use Rattle.tables.proofs.Tables.txns_refusal.Reads as reads
-use Rattle.tables.proofs.Tables.txns_refusal.Lts as lts
-use Rattle.tables.proofs.Tables.txn_refusal.Reads as txn-refusal-reads
 
 abbrev Inv-loop : tie.InvT-loop
 Inv-loop self t₀ t = (t ≤ self .txns) × (firstOf t (txnRefusal self) ≡ 0)
@@ -26,7 +24,7 @@ txn-refusal-requires : tie.Need-txn-refusal-requires Inv-loop μ-loop
 txn-refusal-requires c κs = search needs
 
 returns : tie.Need-returns Inv-loop μ-loop
-returns c = search needs
+returns c = stops _ _ _ _ (c .before .before .if1 .taken) (c .before .before .before .before .loop .inv .1) (c .before .txn-refusal .ensures) (c .if2 .taken)
 
 add-t : tie.Need-add-t Inv-loop μ-loop
 add-t c = search needs
@@ -35,10 +33,10 @@ loop-less : tie.Need-loop-less Inv-loop μ-loop
 loop-less c = search needs
 
 loop-again : tie.Need-loop-again Inv-loop μ-loop
-loop-again c = search needs
+loop-again c = (omega (arith, c .before .before .if1 .taken), rw (of-up, c .before .before .before .before .loop .inv .1, ← c .before .txn-refusal .ensures) (c .if2 .left))
 
 returns-2 : tie.Need-returns-2 Inv-loop μ-loop
-returns-2 c = search needs
+returns-2 c = let z : c .before .before .loop .t ≡ c .before .before .before .args .self .txns = omega (arith, c .before .before .loop .inv .0, c .if1 .left) in rw z at (sym (c .before .before .loop .inv .1))
 
 pub txns-refusal-spec : {M : Type 1} → statement M
 txns-refusal-spec =

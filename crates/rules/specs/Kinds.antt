@@ -1,0 +1,28 @@
+-- Versions and places, each its own kind; and the cells of a state's tables.
+use Prim.Native.Nat.{ℕ, _+_, _*_}
+use mathlib.Core.List.{List}
+use lib.ListN.{getD}
+use Rattle.rules.specs.declared.Version.{Version}
+use Rattle.rules.specs.declared.Place.{Place}
+
+abbrev pub version : ℕ → Version
+version n = record { 0 = n }
+
+abbrev pub place : ℕ → Place
+place n = record { 0 = n }
+
+-- of transaction t, its place, 0 if it has none
+abbrev pub placeIn : List Place → ℕ → ℕ
+placeIn places t = getD places t (place 0) .0
+
+-- of transaction t and site s
+abbrev pub cell : {A : Type 0} → A → List A → ℕ → ℕ → A
+cell d l t s = getD l (t * 16 + s) d
+
+-- of site s and key k, its version there
+abbrev pub versionIn : List Version → ℕ → ℕ → ℕ
+versionIn versions s k = getD versions (s * 64 + k) (version 0) .0
+
+-- no transaction: what a search answers where there is none
+abbrev pub nobody : ℕ
+nobody = 128

@@ -1,0 +1,4 @@
+pub mod Kinds
+pub mod Queue
+pub mod Votes
+pub mod Fit
