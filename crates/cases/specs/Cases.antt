@@ -14,10 +14,12 @@ use Rattle.tables.specs.Sites.{siteCount, keysFrom}
 use Rattle.tables.specs.Concern.{someIn, allIn, touches, inside, local}
 use Rattle.tables.specs.Judge.{keysRefusal, sizeRefusal, countRefusal, keyRefusal, txnRefusal, someGroup, endRefusal, judge}
 use Rattle.machine.specs.Parts.{closedAt}
-use Rattle.machine.specs.Rules.{before, atHead, nextAt, blocked, certify, voteOf, holdsVote, coversKey, covered, allYes, verdict, roomAt}
-use Rattle.machine.specs.Usable.{countsFit, txnFits, usable}
+use Rattle.rules.specs.Queue.{headIn, blockedIn, nextIn, submittedIn}
+use Rattle.rules.specs.Votes.{certifyIn, coversKey, coveredIn, allYesIn, verdictBy, roomIn}
+use Rattle.rules.specs.Fit.{countsFit, rowFits, txnFits, txnsFit, placesFit}
+use Rattle.machine.specs.Usable.{usable}
 use Rattle.machine.specs.Refusals.{readRefusal, submitRefusal, deliverRefusal, voteRefusal, carryRefusal, verdictRefusal, closeRefusal, refusal}
-use Rattle.machine.specs.Effects.{readDone, nextPlace, submitDone, deliverDone, carryDone, stored, committed, closeDone}
+use Rattle.machine.specs.Effects.{readDone, submitDone, deliverDone, carryDone, stored, committed, closeDone}
 use Rattle.machine.specs.Settle.{firstClosing, closesFirst, firstDelivering, firstCarried, firstFrom, firstTo, todo, settleFor, settleDone}
 use Rattle.machine.specs.Steps.{done, decided, stepOf}
 use Rattle.machine.specs.Fresh as Fresh
@@ -149,8 +151,8 @@ cases =
 pub computed : each-gives cases ≡ true
 unfolding each-gives cases gives-it closedOf closedBy verdicts sames same text hexFrom listingOf linesOf stepLines verdictOf itemLines stateLines endOf answersOf digitsBy digitsOf fieldsOf lineOf each
   fileOf scheduleTurn readSchedule stepBy stepsFrom stepsOf taken ended turnOf setupTurn readSetup row withKeys withGroup withTxn inSetup inSchedule judgeAt cutTurn cutOf walk ruleOf valuesFit pairsFit fits recordAt number
-  freshOf Fresh.startOf done decided stepOf firstClosing closesFirst firstDelivering firstCarried firstFrom firstTo todo settleFor settleDone readDone nextPlace submitDone deliverDone carryDone stored committed closeDone
-  readRefusal submitRefusal deliverRefusal voteRefusal carryRefusal verdictRefusal closeRefusal refusal countsFit txnFits usable before atHead nextAt blocked certify voteOf holdsVote coversKey covered allYes verdict roomAt
+  freshOf Fresh.startOf done decided stepOf firstClosing closesFirst firstDelivering firstCarried firstFrom firstTo todo settleFor settleDone readDone submitDone deliverDone carryDone stored committed closeDone
+  readRefusal submitRefusal deliverRefusal voteRefusal carryRefusal verdictRefusal closeRefusal refusal countsFit rowFits txnFits txnsFit placesFit usable headIn blockedIn nextIn submittedIn certifyIn coversKey coveredIn allYesIn verdictBy roomIn
   inRow twice present meets conflictIn someIn allIn touches inside local keysFrom keysRefusal sizeRefusal countRefusal keyRefusal txnRefusal someGroup endRefusal judge noTables
   member within adding anyBelow allBelow sumBelow firstBelow firstOf listFrom
 computed = refl

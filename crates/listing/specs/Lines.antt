@@ -7,10 +7,10 @@ use Rattle.bounded.specs.Bounded.{leastBelow}
 use Rattle.tables.specs.Sites.{siteCount, holds}
 use Rattle.machine.specs.Parts.{placeOf, versionAt, valueAt, closedAt}
 use Rattle.machine.specs.Settle.{nowhere}
-use Rattle.machine.specs.Answers.{numbersOf}
+use Rattle.steps.specs.Answers.{numbersOf}
 use Rattle.machine.specs.declared.State.{State}
-use Rattle.machine.specs.declared.Answer.{Answer}
-use Rattle.machine.specs.declared.Numbers.{Numbers}
+use Rattle.steps.specs.declared.Answer.{Answer}
+use Rattle.steps.specs.declared.Numbers.{Numbers}
 use Rattle.listing.specs.Text.{lineOf, each}
 
 -- STEP, index, answer, two numbers

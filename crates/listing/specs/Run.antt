@@ -2,8 +2,8 @@
 use mathlib.Core.List.{List, [], _∷_}
 use Rattle.machine.specs.Steps.{stepOf}
 use Rattle.machine.specs.declared.State.{State}
-use Rattle.machine.specs.declared.Step.{Step}
-use Rattle.machine.specs.declared.Answer.{Answer}
+use Rattle.steps.specs.declared.Step.{Step}
+use Rattle.steps.specs.declared.Answer.{Answer}
 
 unfoldable pub endOf : State → List Step → State
 endOf st [] = st

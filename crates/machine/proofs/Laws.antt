@@ -1,69 +1,72 @@
--- What a usable state has, and what a search over it finds.
+-- What a usable state has.
 -- Assumes nothing.
-use Prim.Native.Nat.{ℕ, zero, suc, _+_, _-_, _*_, _≤_, _<_}
-use mathlib.Core.Path.{_≡_, refl, sym, ap, _∙_}
-use mathlib.Core.Bool.{Bool, true, false, _&&_, not, cond}
-use mathlib.Core.Logic.{_⊎_, inl, inr}
-use native.Mathlib.Omega.{arith}
-use lib.Dec.{leb, ltb, eqb}
+use Prim.Native.Nat.{ℕ, _≤_, _<_}
+use mathlib.Core.Path.{_≡_}
+use mathlib.Core.Bool.{Bool, true, false, _&&_, not}
+use lib.Dec.{leb, ltb}
 use borrow.Author.Tests.{leb-true, ltb-true, not-true}
-use Rattle.bounded.specs.Bounded.{firstBelow}
 use Rattle.bounded.proofs.Truth.{and-true}
-use Rattle.bounded.proofs.Laws.{all-get, First, first-is}
-use Rattle.tables.specs.Lists.{present, twice, readCount, readKey, writeCount, writeKey}
-use Rattle.tables.specs.Sites.{siteCount}
-use Rattle.tables.specs.declared.Tables.{Tables}
+use Rattle.bounded.proofs.Laws.{all-get}
+use Rattle.tables.specs.Lists.{rowAt, present, twice, readCount, writeCount}
+use Rattle.tables.specs.Sites.{sitesIn, siteCount}
+use Rattle.rules.specs.Cells.{placeIn}
+use Rattle.rules.specs.Queue.{Short}
+use Rattle.rules.specs.Fit.{countsFit, rowFits, txnFits, txnsFit, placesFit}
+use mathlib.Core.List.{List}
 use Rattle.machine.specs.Parts.{placeOf}
-use Rattle.machine.specs.Usable.{countsFit, txnFits, usable}
+use Rattle.machine.specs.Usable.{usable}
 use Rattle.machine.specs.declared.State.{State}
 
--- of the transaction t: its lists have eight keys at most, each below the key count
-pub record Txn (T : Tables) (t : ℕ) : Type 0 where
-  pub reads : readCount T t ≤ 8
-  pub writes : writeCount T t ≤ 8
-  pub read-key : (i : ℕ) → i < readCount T t → readKey T t i < T .keys
-  pub write-key : (i : ℕ) → i < writeCount T t → writeKey T t i < T .keys
-  pub reads-once : twice (T .reads) t (readCount T t) ≡ false
-  pub writes-once : twice (T .writes) t (writeCount T t) ≡ false
+-- a list of n keys in row t: eight at most, each below the key count, none twice
+pub record Row (keys : ℕ) (row : List ℕ) (t n : ℕ) : Type 0 where
+  pub few : n ≤ 8
+  pub low : (i : ℕ) → i < n → rowAt row t i < keys
+  pub once : twice row t n ≡ false
 
 pub record Usable (st : State) : Type 0 where
   pub keys : st .tables .keys ≤ 64
   pub groups : st .tables .groups ≤ 8
   pub sites : siteCount (st .tables) ≤ 16
   pub txns : st .tables .txns ≤ 128
-  pub txn : (t : ℕ) → t < st .tables .txns → Txn (st .tables) t
+  pub reads : (t : ℕ) → t < st .tables .txns → Row (st .tables .keys) (st .tables .reads) t (readCount (st .tables) t)
+  pub writes : (t : ℕ) → t < st .tables .txns → Row (st .tables .keys) (st .tables .writes) t (writeCount (st .tables) t)
   pub place : (t : ℕ) → t < st .tables .txns → placeOf st t ≤ 128
+  pub short : Short (st .tables .nreads) (st .tables .nwrites) (st .tables .txns)
 
-txn-has : (T : Tables) (t : ℕ) → txnFits T t ≡ true → Txn T t
-unfolding txnFits present
-txn-has T t h =
-    let (r, h1) = and-true (leb (readCount T t) 8) _ h in
-    let (w, h2) = and-true (leb (writeCount T t) 8) _ h1 in
-    let (pr, h3) = and-true (present (T .reads) t (readCount T t) (T .keys)) _ h2 in
-    let (pw, h4) = and-true (present (T .writes) t (writeCount T t) (T .keys)) _ h3 in
-    let (tr, tw) = and-true (not (twice (T .reads) t (readCount T t))) _ h4 in
+row-has : (keys : ℕ) (row : List ℕ) (t n : ℕ) → rowFits keys row t n ≡ true → Row keys row t n
+unfolding rowFits present
+row-has keys row t n h =
+    let (a, h1) = and-true (leb n 8) (present row t n keys && not (twice row t n)) h in
+    let (b, c) = and-true (present row t n keys) (not (twice row t n)) h1 in
     record {
-      reads = leb-true _ _ r;
-      writes = leb-true _ _ w;
-      read-key = λ i l. ltb-true _ _ (all-get (readCount T t) (λ i. ltb (readKey T t i) (T .keys)) pr i l);
-      write-key = λ i l. ltb-true _ _ (all-get (writeCount T t) (λ i. ltb (writeKey T t i) (T .keys)) pw i l);
-      reads-once = not-true _ tr;
-      writes-once = not-true _ tw;
+      few = leb-true _ _ a;
+      low = λ i l. ltb-true _ _ (all-get n (λ i. ltb (rowAt row t i) keys) b i l);
+      once = not-true _ c;
     }
 
 pub usable-has : (st : State) → usable st ≡ true → Usable st
-unfolding usable countsFit
+unfolding usable countsFit txnsFit txnFits placesFit
 usable-has st h =
     let T = st .tables in
-    let (c, a) = and-true (countsFit T) _ h in
-    let (k, c1) = and-true (leb (T .keys) 64) _ c in
-    let (g, c2) = and-true (leb (T .groups) 8) _ c1 in
-    let (s, n) = and-true (leb (siteCount T) 16) _ c2 in
+    let (c, r) = and-true (countsFit (T .keys) (T .groups) (T .sizes) (T .txns)) (txnsFit (T .keys) (T .reads) (T .nreads) (T .writes) (T .nwrites) (T .txns) && placesFit (st .places) (T .txns)) h in
+    let (x, p) = and-true (txnsFit (T .keys) (T .reads) (T .nreads) (T .writes) (T .nwrites) (T .txns)) (placesFit (st .places) (T .txns)) r in
+    let (k, c1) = and-true (leb (T .keys) 64) (leb (T .groups) 8 && (leb (sitesIn (T .sizes) (T .groups)) 16 && leb (T .txns) 128)) c in
+    let (g, c2) = and-true (leb (T .groups) 8) (leb (sitesIn (T .sizes) (T .groups)) 16 && leb (T .txns) 128) c1 in
+    let (s, n) = and-true (leb (sitesIn (T .sizes) (T .groups)) 16) (leb (T .txns) 128) c2 in
     record {
       keys = leb-true _ _ k;
       groups = leb-true _ _ g;
       sites = leb-true _ _ s;
       txns = leb-true _ _ n;
-      txn = λ t l. txn-has T t (and-true (txnFits T t) (leb (placeOf st t) 128) (all-get (T .txns) (λ t. txnFits T t && leb (placeOf st t) 128) a t l) .0);
-      place = λ t l. leb-true _ _ (and-true (txnFits T t) (leb (placeOf st t) 128) (all-get (T .txns) (λ t. txnFits T t && leb (placeOf st t) 128) a t l) .1);
+      reads = λ t l. row-has (T .keys) (T .reads) t (readCount T t) (rows x t l .0);
+      writes = λ t l. row-has (T .keys) (T .writes) t (writeCount T t) (rows x t l .1);
+      place = λ t l. leb-true _ _ (all-get (T .txns) (λ t. leb (placeIn (st .places) t) 128) p t l);
+      short = λ t l. (row-has (T .keys) (T .reads) t (readCount T t) (rows x t l .0) .few, row-has (T .keys) (T .writes) t (writeCount T t) (rows x t l .1) .few);
     }
+  where
+    rows : txnsFit (st .tables .keys) (st .tables .reads) (st .tables .nreads) (st .tables .writes) (st .tables .nwrites) (st .tables .txns) ≡ true
+        → (t : ℕ) → t < st .tables .txns
+        → (rowFits (st .tables .keys) (st .tables .reads) t (readCount (st .tables) t) ≡ true) × (rowFits (st .tables .keys) (st .tables .writes) t (writeCount (st .tables) t) ≡ true)
+    rows x t l =
+        and-true (rowFits (st .tables .keys) (st .tables .reads) t (readCount (st .tables) t)) (rowFits (st .tables .keys) (st .tables .writes) t (writeCount (st .tables) t))
+        (all-get (st .tables .txns) (txnFits (st .tables .keys) (st .tables .reads) (st .tables .nreads) (st .tables .writes) (st .tables .nwrites)) x t l)

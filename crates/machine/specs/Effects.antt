@@ -2,19 +2,19 @@
 use Prim.Native.Nat.{ℕ, zero, suc, _+_, _*_}
 use mathlib.Core.Bool.{Bool, cond}
 use mathlib.Core.List.{List}
-use lib.Dec.{eqb, ltb}
+use lib.Dec.{eqb}
 use lib.ListN.{getD, set}
-use Rattle.bounded.specs.Bounded.{countBelow}
 use Rattle.tables.specs.Lists.{readKey, writeCount, writeKey, writeValue}
 use Rattle.tables.specs.Sites.{holds}
-use Rattle.machine.specs.Parts.{version, place, placeOf, versionAt, valueAt, castBy, withRead, withPlace, withDelivery, withCarried, withClosed, withStores}
-use Rattle.machine.specs.Rules.{nextAt, voteOf, verdict}
+use Rattle.steps.specs.Kinds.{version, place}
+use Rattle.machine.specs.Parts.{versionAt, valueAt, castBy, withRead, withPlace, withDelivery, withCarried, withClosed, withStores}
+use Rattle.machine.specs.Rules.{nextAt, submitted, voteOf, verdict}
 use Rattle.tables.specs.declared.Tables.{Tables}
 use Rattle.machine.specs.declared.State.{State}
-use Rattle.machine.specs.declared.Version.{Version}
+use Rattle.steps.specs.declared.Version.{Version}
 use Rattle.machine.specs.declared.Stepped.{Stepped}
-use Rattle.machine.specs.declared.Answer.{Answer}
-use Rattle.machine.specs.declared.Answer.the-variants as answer
+use Rattle.steps.specs.declared.Answer.{Answer}
+use Rattle.steps.specs.declared.Answer.the-variants as answer
 
 abbrev pub giving : Answer → State → Stepped
 giving a st = record { answer = a; next = st }
@@ -26,8 +26,8 @@ readDone st t i s =
     giving (answer.Read (version (versionAt st s k)) (valueAt st s k)) (withRead st t i (versionAt st s k) (valueAt st s k))
 
 -- one more than the number submitted so far
-unfoldable pub nextPlace : State → ℕ
-nextPlace st = countBelow (st .tables .txns) (λ u. ltb 0 (placeOf st u)) + 1
+abbrev pub nextPlace : State → ℕ
+nextPlace st = submitted st + 1
 
 unfoldable pub submitDone : State → ℕ → Stepped
 submitDone st t = giving (answer.Submitted (place (nextPlace st))) (withPlace st t (nextPlace st))

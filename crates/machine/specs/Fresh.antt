@@ -8,7 +8,7 @@ use Rattle.tables.specs.Sites.{holds}
 use Rattle.tables.specs.Empty.{noTables}
 use Rattle.tables.specs.Judge.{judge}
 use Rattle.tables.specs.declared.Tables.{Tables}
-use Rattle.machine.specs.Parts.{version, place}
+use Rattle.steps.specs.Kinds.{version, place}
 use Rattle.machine.specs.declared.State.{State}
 use Rattle.machine.specs.declared.Fresh.{Fresh}
 

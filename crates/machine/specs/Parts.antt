@@ -4,48 +4,41 @@ use mathlib.Core.Bool.{Bool, true, false}
 use mathlib.Core.List.{List}
 use lib.ListN.{getD, set}
 use Rattle.keys.specs.Keys.{adding}
+use Rattle.steps.specs.Kinds.{version, place}
+use Rattle.rules.specs.Cells.{placeIn, cell, versionIn}
+use Rattle.rules.specs.Votes.{recordedIn}
+use Rattle.steps.specs.declared.Version.{Version}
 use Rattle.machine.specs.declared.State.{State}
-use Rattle.machine.specs.declared.Version.{Version}
-use Rattle.machine.specs.declared.Place.{Place}
-
-abbrev pub version : ℕ → Version
-version n = record { 0 = n }
-
-abbrev pub place : ℕ → Place
-place n = record { 0 = n }
 
 -- the place of t, 0 if it has none
 abbrev pub placeOf : State → ℕ → ℕ
-placeOf st t = getD (st .places) t (place 0) .0
+placeOf st t = placeIn (st .places) t
 
 -- version and value of k at s
 abbrev pub versionAt : State → ℕ → ℕ → ℕ
-versionAt st s k = getD (st .versions) (s * 64 + k) (version 0) .0
+versionAt st s k = versionIn (st .versions) s k
 
 abbrev pub valueAt : State → ℕ → ℕ → ℕ
 valueAt st s k = getD (st .values) (s * 64 + k) 0
 
--- of t's i-th read: was it recorded, and which version
+-- t's i-th read was recorded
 abbrev pub recordedOf : State → ℕ → ℕ → Bool
-recordedOf st t i = getD (st .recorded) (t * 8 + i) false
-
-abbrev pub readVersion : State → ℕ → ℕ → ℕ
-readVersion st t i = getD (st .readversions) (t * 8 + i) (version 0) .0
+recordedOf st t i = recordedIn (st .recorded) t i
 
 abbrev pub deliveredAt : State → ℕ → ℕ → Bool
-deliveredAt st t s = getD (st .delivered) (t * 16 + s) false
+deliveredAt st t s = cell false (st .delivered) t s
 
 -- 0 open, 1 committed, 2 aborted
 abbrev pub closedAt : State → ℕ → ℕ → ℕ
-closedAt st t s = getD (st .closed) (t * 16 + s) 0
+closedAt st t s = cell 0 (st .closed) t s
 
 -- 0 none, 1 yes, 2 or more no
 abbrev pub castBy : State → ℕ → ℕ → ℕ
-castBy st t s = getD (st .cast) (t * 16 + s) 0
+castBy st t s = cell 0 (st .cast) t s
 
 -- the sites whose votes on t were carried to s
 abbrev pub carriedTo : State → ℕ → ℕ → ℕ
-carriedTo st t s = getD (st .carried) (t * 16 + s) 0
+carriedTo st t s = cell 0 (st .carried) t s
 
 -- with version v and value x recorded for t's i-th read
 abbrev pub withRead : State → ℕ → ℕ → ℕ → ℕ → State

@@ -7,10 +7,11 @@ use Rattle.tables.specs.Lists.{readCount, readKey}
 use Rattle.tables.specs.Sites.{siteCount, holds}
 use Rattle.tables.specs.Concern.{concerns, local}
 use Rattle.machine.specs.Parts.{placeOf, recordedOf, deliveredAt, closedAt, castBy}
-use Rattle.machine.specs.Rules.{atHead, nobody, nextAt, blocked, holdsVote, verdict, roomAt}
+use Rattle.rules.specs.Cells.{nobody}
+use Rattle.machine.specs.Rules.{atHead, nextAt, blocked, holdsVoteOf, verdict, roomAt}
 use Rattle.machine.specs.declared.State.{State}
-use Rattle.machine.specs.declared.Step.{Step}
-use Rattle.machine.specs.declared.Step.the-variants.{Read, Submit, Deliver, Carry, Close, Settle}
+use Rattle.steps.specs.declared.Step.{Step}
+use Rattle.steps.specs.declared.Step.the-variants.{Read, Submit, Deliver, Carry, Close, Settle}
 
 -- no such transaction, read, site; the site lacks the key; recorded before
 unfoldable pub readRefusal : State → ℕ → ℕ → ℕ → ℕ
@@ -42,7 +43,7 @@ deliverRefusal st s =
 unfoldable pub voteRefusal : State → ℕ → ℕ → ℕ → ℕ
 voteRefusal st t from to =
     cond (local (st .tables) t || (eqb from to || eqb (castBy st t from) 0)) 28
-    (cond (holdsVote st t to from) 24
+    (cond (holdsVoteOf st t to from) 24
     0)
 
 unfoldable pub carryRefusal : State → ℕ → ℕ → ℕ → ℕ

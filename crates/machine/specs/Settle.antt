@@ -5,12 +5,12 @@ use lib.Dec.{eqb, ltb}
 use Rattle.bounded.specs.Bounded.{firstBelow, leastBelow}
 use Rattle.tables.specs.Sites.{siteCount}
 use Rattle.machine.specs.Parts.{placeOf}
-use Rattle.machine.specs.Rules.{nobody}
+use Rattle.rules.specs.Cells.{nobody}
 use Rattle.machine.specs.Refusals.{deliverRefusal, carryRefusal, closeRefusal}
 use Rattle.machine.specs.Effects.{giving, deliverDone, carryDone, closeDone}
 use Rattle.machine.specs.declared.State.{State}
 use Rattle.machine.specs.declared.Stepped.{Stepped}
-use Rattle.machine.specs.declared.Answer.the-variants as answer
+use Rattle.steps.specs.declared.Answer.the-variants as answer
 use Rattle.machine.specs.declared.Todo.{Todo}
 use Rattle.machine.specs.declared.Todo.the-variants.{Close, Deliver, Carry, Nothing}
 

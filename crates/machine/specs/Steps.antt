@@ -8,9 +8,9 @@ use Rattle.machine.specs.Effects.{giving, readDone, submitDone, deliverD
 use Rattle.machine.specs.Settle.{settleDone}
 use Rattle.machine.specs.declared.State.{State}
 use Rattle.machine.specs.declared.Stepped.{Stepped}
-use Rattle.machine.specs.declared.Answer.the-variants as answer
-use Rattle.machine.specs.declared.Step.{Step}
-use Rattle.machine.specs.declared.Step.the-variants.{Read, Submit, Deliver, Carry, Close, Settle}
+use Rattle.steps.specs.declared.Answer.the-variants as answer
+use Rattle.steps.specs.declared.Step.{Step}
+use Rattle.steps.specs.declared.Step.the-variants.{Read, Submit, Deliver, Carry, Close, Settle}
 
 abbrev pub refused : State → ℕ → Stepped
 refused st n = giving (answer.Refused n) st

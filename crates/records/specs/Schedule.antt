@@ -4,8 +4,8 @@ use mathlib.Core.Bool.{cond}
 use mathlib.Core.List.{List, [], _∷_}
 use lib.Dec.{eqb}
 use lib.ListN.{length, getD}
-use Rattle.machine.specs.declared.Step.{Step}
-use Rattle.machine.specs.declared.Step.the-variants.{Read, Submit, Deliver, Carry, Close, Settle}
+use Rattle.steps.specs.declared.Step.{Step}
+use Rattle.steps.specs.declared.Step.the-variants.{Read, Submit, Deliver, Carry, Close, Settle}
 use Rattle.records.specs.Record.{recordAt}
 use Rattle.records.specs.Walk.{Turn, go, stop, walk}
 use Rattle.records.specs.Judge.{inSchedule, judgeAt}

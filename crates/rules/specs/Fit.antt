@@ -7,8 +7,8 @@ use lib.ListN.{getD}
 use Rattle.bounded.specs.Bounded.{allBelow}
 use Rattle.tables.specs.Lists.{present, twice}
 use Rattle.tables.specs.Sites.{sitesIn}
-use Rattle.rules.specs.Kinds.{placeIn}
-use Rattle.rules.specs.declared.Place.{Place}
+use Rattle.rules.specs.Cells.{placeIn}
+use Rattle.steps.specs.declared.Place.{Place}
 
 -- no count over its limit
 unfoldable pub countsFit : ℕ → ℕ → List ℕ → ℕ → Bool

@@ -1,4 +1,4 @@
-pub mod Kinds
+pub mod Cells
 pub mod Queue
 pub mod Votes
 pub mod Fit

@@ -7,8 +7,8 @@ use lib.ListN.{getD}
 use Rattle.bounded.specs.Bounded.{anyBelow, countBelow, firstBelow}
 use Rattle.tables.specs.Lists.{conflictIn}
 use Rattle.tables.specs.Concern.{touches}
-use Rattle.rules.specs.Kinds.{placeIn, cell, nobody}
-use Rattle.rules.specs.declared.Place.{Place}
+use Rattle.rules.specs.Cells.{placeIn, cell, nobody}
+use Rattle.steps.specs.declared.Place.{Place}
 
 -- the queue of s is what it has delivered and not closed
 abbrev pub queuedIn : List Bool → List ℕ → ℕ → ℕ → Bool

@@ -8,8 +8,9 @@ use Rattle.bounded.specs.Bounded.{anyBelow, allBelow}
 use Rattle.keys.specs.Keys.{member}
 use Rattle.tables.specs.Lists.{rowAt}
 use Rattle.tables.specs.Sites.{keysFrom}
-use Rattle.rules.specs.Kinds.{version, cell, versionIn}
-use Rattle.rules.specs.declared.Version.{Version}
+use Rattle.steps.specs.Kinds.{version}
+use Rattle.rules.specs.Cells.{cell, versionIn}
+use Rattle.steps.specs.declared.Version.{Version}
 
 -- t's i-th read was recorded
 abbrev pub recordedIn : List Bool → ℕ → ℕ → Bool

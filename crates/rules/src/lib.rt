@@ -6,16 +6,13 @@ ghost use lib.Dec.{eqb, ltb};
 ghost use lib.ListN.{getD};
 ghost use Rattle.bounded.specs.Bounded.{allBelow};
 ghost use Rattle.tables.specs.Concern.{touches};
-ghost use Rattle.rules.specs.Kinds.{cell};
+ghost use Rattle.rules.specs.Cells.{cell};
 ghost use Rattle.rules.specs.Queue.{precedes, headIn, blockedIn, waits, nextIn, submittedIn, Short};
 ghost use Rattle.rules.specs.Votes.{recordedIn, certifyIn, holdsVote, coversKey, coveredIn, allYesIn, verdictBy, roomIn};
 ghost use Rattle.rules.specs.Fit.{countsFit, rowFits, txnFits, txnsFit, placesFit};
+use steps::Place;
+use steps::Version;
 use tables::wide;
-
-// How often a key was written, the first value counting as one; and a transaction's place in the order, 0 for none.
-pub struct Version(pub u32);
-
-pub struct Place(pub u32);
 
 // ---- the queue
 

@@ -1,15 +1,10 @@
--- Versions and places, each its own kind; and the cells of a state's tables.
+-- The cells of a state's tables.
 use Prim.Native.Nat.{ℕ, _+_, _*_}
 use mathlib.Core.List.{List}
 use lib.ListN.{getD}
-use Rattle.rules.specs.declared.Version.{Version}
-use Rattle.rules.specs.declared.Place.{Place}
-
-abbrev pub version : ℕ → Version
-version n = record { 0 = n }
-
-abbrev pub place : ℕ → Place
-place n = record { 0 = n }
+use Rattle.steps.specs.Kinds.{version, place}
+use Rattle.steps.specs.declared.Version.{Version}
+use Rattle.steps.specs.declared.Place.{Place}
 
 -- of transaction t, its place, 0 if it has none
 abbrev pub placeIn : List Place → ℕ → ℕ

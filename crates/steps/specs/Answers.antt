@@ -1,8 +1,8 @@
 -- An answer's number and its two values: 0 and what the step gives, or the refusal and two zeros.
 use Prim.Native.Nat.{ℕ}
-use Rattle.machine.specs.declared.Numbers.{Numbers}
-use Rattle.machine.specs.declared.Answer.{Answer}
-use Rattle.machine.specs.declared.Answer.the-variants.{Read, Submitted, Delivered, Carried, Closed, Settled, Refused}
+use Rattle.steps.specs.declared.Numbers.{Numbers}
+use Rattle.steps.specs.declared.Answer.{Answer}
+use Rattle.steps.specs.declared.Answer.the-variants.{Read, Submitted, Delivered, Carried, Closed, Settled, Refused}
 
 abbrev pub numbers : ℕ → ℕ → ℕ → Numbers
 numbers n a b = record { code = n; first = a; second = b }

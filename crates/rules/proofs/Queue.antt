@@ -1,0 +1,43 @@
+-- The place of one found, that of nobody, and how many are submitted at most.
+-- Assumes nothing.
+use Prim.Native.Nat.{ℕ, zero, suc, _≤_}
+use mathlib.Core.Path.{_≡_, ap}
+use mathlib.Core.Bool.{Bool, true, false, _&&_, _||_, cond}
+use mathlib.Core.List.{List}
+use native.Mathlib.Omega.{arith}
+use lib.Dec.{eqb, ltb}
+use lib.ListN.{length, List·getD-eq-default}
+use Rattle.bounded.specs.Bounded.{sumBelow, countBelow}
+use Rattle.steps.specs.Kinds.{place}
+use Rattle.rules.specs.Cells.{placeIn, nobody}
+use Rattle.rules.specs.Queue.{submittedIn}
+use Rattle.steps.specs.declared.Place.{Place}
+use Rattle.rules.specs.declared.Found.{Found}
+
+-- r is t, where it passes and comes sooner than f, else f: so r stands with its place if f does
+pub place-found : (places : List Place) (passes : Bool) (t : ℕ) (f r : Found) → let b = passes && (eqb (f .t) nobody || ltb (placeIn places t) (f .place)) in
+    r .t ≡ cond b t (f .t) → r .place ≡ cond b (placeIn places t) (f .place) → f .place ≡ placeIn places (f .t) → r .place ≡ placeIn places (r .t)
+place-found places passes t f r = go (passes && (eqb (f .t) nobody || ltb (placeIn places t) (f .place)))
+  where
+    go : (b : Bool) → r .t ≡ cond b t (f .t) → r .place ≡ cond b (placeIn places t) (f .place) → f .place ≡ placeIn places (f .t) → r .place ≡ placeIn places (r .t)
+    go true d e h = rw (e, d)
+    go false d e h = rw (e, d, h)
+
+-- nobody has no place
+pub place-nobody : (places : List Place) → length places ≡ 128 → placeIn places nobody ≡ 0
+place-nobody places h = ap (λ (p : Place). p .0) (List·getD-eq-default places (place 0) (omega arith))
+
+-- at most n of n numbers pass
+count-most : (n : ℕ) (p : ℕ → Bool) → countBelow n p ≤ n
+unfolding sumBelow
+count-most zero p = omega arith
+count-most (suc n) p = omega (arith, count-most n p, one (p n))
+  where
+    one : (b : Bool) → cond b 1 0 ≤ 1
+    one true = omega arith
+    one false = omega arith
+
+-- at most n of n transactions have a place
+pub submitted-most : (places : List Place) (n : ℕ) → submittedIn places n ≤ n
+unfolding submittedIn
+submitted-most places n = count-most n (λ t. ltb 0 (placeIn places t))
