@@ -1,0 +1,22 @@
+use Rattle.machine.proofs.Laws.{usable-has}
+use mathlib.Core.Path.{_≡_, refl, sym, ap, _∙_}
+use native.Mathlib.Omega.{arith}
+use borrow.Author.Needs.{needs}
+use Rattle.machine.proofs.State.is_concerned.Statement.{statement}
+use Rattle.machine.proofs.State.is_concerned.Tie as tie
+use Rattle.machine.proofs.State.is_concerned.Reads as reads
+use Rattle.machine.proofs.State.is_concerned.Lts as lts
+use Rattle.tables.proofs.site_keys.Reads as site-keys-reads
+use Rattle.tables.proofs.touch.Reads as touch-reads
+
+site-keys-requires : tie.Need-site-keys-requires
+site-keys-requires c κs = usable-has _ (c .before .before .before .pre .0) .groups
+
+touch-requires : tie.Need-touch-requires
+touch-requires c κs = let u = usable-has _ (c .before .before .before .before .before .before .before .before .before .pre .0) in (omega (arith, c .before .before .before .before .before .before .before .before .before .pre .1, u .txns), u .short _ (c .before .before .before .before .before .before .before .before .before .pre .1))
+
+returns : tie.Need-returns
+returns c = rw (← c .before .before .before .before .before .before .site-keys .ensures) (c .touch .ensures)
+
+pub is-concerned-spec : {M : Type 1} → statement M
+is-concerned-spec = tie.close (tie.spec site-keys-requires touch-requires returns)

@@ -1,0 +1,89 @@
+use native.Mathlib.Omega.{arith}
+use borrow.Author.Needs.{needs}
+use Rattle.machine.proofs.State.take.Statement.{statement}
+use Rattle.machine.proofs.State.take.Tie as tie
+use Rattle.machine.proofs.State.take.Reads as reads
+use Rattle.machine.proofs.State.take.Lts as lts
+use Rattle.machine.proofs.State.take_carry.Reads as take-carry-reads
+use Rattle.machine.proofs.State.take_close.Reads as take-close-reads
+use Rattle.machine.proofs.State.take_deliver.Reads as take-deliver-reads
+use Rattle.machine.proofs.State.take_read.Reads as take-read-reads
+use Rattle.machine.proofs.State.take_settle.Reads as take-settle-reads
+use Rattle.machine.proofs.State.take_submit.Reads as take-submit-reads
+
+enum-known-x : tie.Need-enum-known-x
+enum-known-x c = search needs
+
+take-read-requires : tie.Need-take-read-requires
+take-read-requires c κs = search needs
+
+enum-known-x-2 : tie.Need-enum-known-x-2
+enum-known-x-2 c = search needs
+
+take-submit-requires : tie.Need-take-submit-requires
+take-submit-requires c κs = search needs
+
+enum-known-x-3 : tie.Need-enum-known-x-3
+enum-known-x-3 c = search needs
+
+take-deliver-requires : tie.Need-take-deliver-requires
+take-deliver-requires c κs = search needs
+
+enum-known-x-4 : tie.Need-enum-known-x-4
+enum-known-x-4 c = search needs
+
+take-carry-requires : tie.Need-take-carry-requires
+take-carry-requires c κs = search needs
+
+enum-known-x-5 : tie.Need-enum-known-x-5
+enum-known-x-5 c = search needs
+
+take-close-requires : tie.Need-take-close-requires
+take-close-requires c κs = search needs
+
+enum-told : tie.Need-enum-told
+enum-told c = search needs
+
+take-settle-requires : tie.Need-take-settle-requires
+take-settle-requires c κs = search needs
+
+returns : tie.Need-returns
+returns c = ?
+
+returns-2 : tie.Need-returns-2
+returns-2 c = ?
+
+returns-3 : tie.Need-returns-3
+returns-3 c = ?
+
+returns-4 : tie.Need-returns-4
+returns-4 c = ?
+
+returns-5 : tie.Need-returns-5
+returns-5 c = ?
+
+returns-6 : tie.Need-returns-6
+returns-6 c = ?
+
+pub take-spec : {M : Type 1} → statement M
+take-spec =
+    tie.close
+    (tie.spec
+    enum-known-x
+    take-read-requires
+    enum-known-x-2
+    take-submit-requires
+    enum-known-x-3
+    take-deliver-requires
+    enum-known-x-4
+    take-carry-requires
+    enum-known-x-5
+    take-close-requires
+    enum-told
+    take-settle-requires
+    returns
+    returns-2
+    returns-3
+    returns-4
+    returns-5
+    returns-6)
