@@ -11,7 +11,7 @@ use native.Mathlib.Nat.{not-suc-le-zero}
 use lib.Dec.{eqb, ltb}
 use lib.ListN.{length, getD}
 use borrow.Author.Tests.{ltb-true, ltb-false, eq-eqb, ne-eqb}
-use Rattle.bounded.specs.Bounded.{anyBelow, allBelow, sumBelow, earlier, firstBelow, orElse, firstOf, listFrom}
+use Rattle.bounded.specs.Bounded.{anyBelow, allBelow, sumBelow, earlier, firstBelow, leastBelow, orElse, firstOf, listFrom}
 use Rattle.bounded.proofs.Truth.{and-true, and-put, or-true, or-left, or-right, bool, clash, same}
 
 -- ---- one turn
@@ -161,3 +161,20 @@ unfolding listFrom
 list-at i zero f j d l = absurd (not-suc-le-zero l)
 list-at i (suc n) f zero d l = ap f (omega arith)
 list-at i (suc n) f (suc j) d l = list-at (suc i) n f j d (omega arith) ∙ ap f (omega arith)
+
+-- ---- the lowest number that passes, looked for from below
+
+pub least-up : (i : ℕ) (p : ℕ → Bool) (d : ℕ) → leastBelow i p d ≡ d → p i ≡ false → leastBelow (i + 1) p d ≡ d
+least-up i p d e f = first-up i (λ j. 0) p d ∙ rw f e
+
+pub least-stop : (n i : ℕ) (p : ℕ → Bool) (d : ℕ) → i < n → n ≤ d → leastBelow i p d ≡ d → p i ≡ true → leastBelow n p d ≡ i
+least-stop n i p d l b e t = elim (first-is n (λ j. 0) p d b) [
+  | inr q ↦ clash t (q .1 i l)
+  | inl g ↦ elim (first-is i (λ j. 0) p d (omega arith)) [
+    | inl h ↦ absurd (omega (arith, h .low))
+    | inr q ↦ elim (bool (ltb (leastBelow n p d) i)) [
+      | inl y ↦ clash (g .passes) (q .1 (leastBelow n p d) (ltb-true (leastBelow n p d) i y))
+      | inr y ↦ omega (arith, ltb-false (leastBelow n p d) i y, g .lower i l t refl)
+    ]
+  ]
+]

@@ -1,3 +1,15 @@
+use Rattle.machine.specs.Settle.{closesFirst}
+use Rattle.machine.specs.Refusals.{closeRefusal}
+use Rattle.machine.proofs.Laws.{usable-has}
+use Rattle.rules.proofs.Queue.{place-found, place-nobody}
+use Rattle.rules.specs.Cells.{nobody, placeIn}
+use Rattle.bounded.proofs.Laws.{first-up}
+use Rattle.bounded.specs.Bounded.{firstBelow}
+use lib.ListN.{length, length-map}
+use lib.Dec.{eqb, ltb}
+use borrow.Author.Tests.{eq-eqb, ne-eqb, le-leb, lt-leb, le-ltb, lt-ltb}
+use Prim.Native.Nat.{_≤_, _<_, _+_, _-_}
+use mathlib.Core.Path.{_≡_, refl, sym, ap, _∙_}
 use native.Mathlib.Omega.{arith}
 use borrow.Author.Needs.{needs}
 use Rattle.machine.proofs.State.closes_first.Statement.{statement}
@@ -8,13 +20,14 @@ use Rattle.machine.proofs.State.close_refusal.Reads as close-refusal-re
 use Rattle.rules.proofs.sooner.Reads as sooner-reads
 
 abbrev Inv-loop : tie.InvT-loop
-Inv-loop s self found₀ t₀ found t = ?
+Inv-loop s self found₀ t₀ found t = (t ≤ self .tables .txns) × (found .t ≡ firstBelow t (placeIn (self .places)) (λ z. eqb (closeRefusal self z s) 0) nobody) × (found .place ≡ placeIn (self .places) (found .t))
 
 abbrev μ-loop : tie.MeasureT-loop
-μ-loop s self found₀ t₀ found t = ?
+μ-loop s self found₀ t₀ found t = self .tables .txns - t
 
 loop-holds : tie.Need-loop-holds Inv-loop μ-loop
-loop-holds c = ?
+unfolding firstBelow
+loop-holds c = (omega arith, refl, sym (place-nobody (c .args .t1 .places) (simp length-map at (c .good .0 .1 .1 .1 .1 .1 .1 .1 .1 .0 .1 .0 .1))))
 
 cast-p : tie.Need-cast-p Inv-loop μ-loop
 cast-p c = search needs
@@ -23,7 +36,7 @@ mul-p : tie.Need-mul-p Inv-loop μ-loop
 mul-p c = search needs
 
 element-copy-out-p : tie.Need-element-copy-out-p Inv-loop μ-loop
-element-copy-out-p c = ?
+element-copy-out-p c = omega (arith, c .loop-test .taken, usable-has _ (c .before .before .pre) .txns)
 
 close-refusal-requires : tie.Need-close-refusal-requires Inv-loop μ-loop
 close-refusal-requires c κs = search needs
@@ -35,13 +48,14 @@ add-t : tie.Need-add-t Inv-loop μ-loop
 add-t c = search needs
 
 loop-less : tie.Need-loop-less Inv-loop μ-loop
-loop-less c = ?
+loop-less c = omega (arith, c .before .before .loop-test .taken)
 
 loop-again : tie.Need-loop-again Inv-loop μ-loop
-loop-again c = ?
+loop-again c = (omega (arith, c .before .before .loop-test .taken), rw (first-up, ← c .before .before .before .loop .inv .1, ← c .before .before .before .loop .inv .2, ← c .before .close-refusal .ensures) (c .sooner .ensures .0), place-found (c .before .before .before .before .args .t1 .places) (eqb (c .before .close-refusal .result) 0) (c .before .before .before .loop .t) (c .before .before .before .loop .found) _ (c .sooner .ensures .0) (c .sooner .ensures .1) (c .before .before .before .loop .inv .2))
 
 returns : tie.Need-returns Inv-loop μ-loop
-returns c = ?
+unfolding closesFirst
+returns c = let z : c .before .loop .t ≡ c .before .before .args .t1 .tables .txns = omega (arith, c .before .loop .inv .0, c .loop-test .left) in rw z at (c .before .loop .inv .1)
 
 pub closes-first-spec : {M : Type 1} → statement M
 closes-first-spec =

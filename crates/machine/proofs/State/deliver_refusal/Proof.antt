@@ -1,36 +1,40 @@
+-- `State::deliver_refusal` meets its contract. The tests stand in the order of `deliverRefusal`; a next that isn't `nobody` is a transaction.
 use native.Mathlib.Omega.{arith}
+use borrow.Author.Tests.{eq-eqb, ne-eqb, le-leb, lt-leb}
 use borrow.Author.Needs.{needs}
+use Rattle.machine.specs.Refusals.{deliverRefusal}
+use Rattle.machine.proofs.Carry.{next-low}
+use Rattle.machine.proofs.Laws.{usable-has}
 use Rattle.machine.proofs.State.deliver_refusal.Statement.{statement}
 use Rattle.machine.proofs.State.deliver_refusal.Tie as tie
-use Rattle.machine.proofs.State.deliver_refusal.Reads as reads
-use Rattle.machine.proofs.State.deliver_refusal.Lts as lts
-use Rattle.machine.proofs.State.next_at.Reads as next-at-reads
-use Rattle.rules.proofs.is_blocked.Reads as is-blocked-reads
-use Rattle.tables.proofs.sites_in.Reads as sites-in-reads
 
 sites-in-requires : tie.Need-sites-in-requires
-sites-in-requires c κs = ?
+sites-in-requires c κs = usable-has _ (c .before .before .pre) .groups
 
 returns : tie.Need-returns
-returns c = ?
+unfolding deliverRefusal
+returns c = rw (← c .before .sites-in .ensures .0, le-leb _ _ (c .if1 .taken))
 
 next-at-requires : tie.Need-next-at-requires
 next-at-requires c κs = search needs
 
 returns-2 : tie.Need-returns-2
-returns-2 c = ?
+unfolding deliverRefusal
+returns-2 c = rw (← c .before .before .before .sites-in .ensures .0, lt-leb _ _ (c .before .before .if1 .left), ← c .before .next-at .ensures, eq-eqb _ _ (c .if2 .taken))
 
 cast-is-blocked : tie.Need-cast-is-blocked
 cast-is-blocked c = search needs
 
 is-blocked-requires : tie.Need-is-blocked-requires
-is-blocked-requires c κs = ?
+is-blocked-requires c κs = let u = usable-has _ (c .before .before .before .before .before .before .before .before .before .before .before .before .before .pre) in ((u .txns, (rw (c .before .before .before .before .before .before .before .before .next-at .ensures) (next-low (c .before .before .before .before .before .before .before .before .before .before .before .before .before .args .t1) (c .before .before .before .before .before .before .before .before .before .before .before .before .before .args .s) (u .txns) (rw (c .before .before .before .before .before .before .before .before .next-at .ensures) at (c .before .before .before .before .before .before .before .if2 .left))), omega (arith, c .before .before .before .before .before .before .before .before .before .if1 .left, c .before .before .before .before .before .before .before .before .before .before .sites-in .ensures .0, u .sites))), u .short)
 
 returns-3 : tie.Need-returns-3
-returns-3 c = ?
+unfolding deliverRefusal
+returns-3 c = rw (← c .before .before .before .before .before .before .before .before .before .before .before .before .sites-in .ensures .0, lt-leb _ _ (c .before .before .before .before .before .before .before .before .before .before .before .if1 .left), ← c .before .before .before .before .before .before .before .before .before .before .next-at .ensures, ne-eqb _ _ (c .before .before .before .before .before .before .before .before .before .if2 .left), ← c .before .is-blocked .ensures, c .if3 .taken)
 
 returns-4 : tie.Need-returns-4
-returns-4 c = ?
+unfolding deliverRefusal
+returns-4 c = rw (← c .before .before .before .before .before .before .before .before .before .before .before .before .sites-in .ensures .0, lt-leb _ _ (c .before .before .before .before .before .before .before .before .before .before .before .if1 .left), ← c .before .before .before .before .before .before .before .before .before .before .next-at .ensures, ne-eqb _ _ (c .before .before .before .before .before .before .before .before .before .if2 .left), ← c .before .is-blocked .ensures, c .if3 .left)
 
 pub deliver-refusal-spec : {M : Type 1} → statement M
 deliver-refusal-spec =

@@ -1,24 +1,20 @@
+-- `State::verdict_at` meets its contract. The counts are `readCount` and `siteCount`, within the tables in a usable state.
 use native.Mathlib.Omega.{arith}
-use borrow.Author.Needs.{needs}
+use Rattle.machine.proofs.Laws.{usable-has}
 use Rattle.machine.proofs.State.verdict_at.Statement.{statement}
 use Rattle.machine.proofs.State.verdict_at.Tie as tie
-use Rattle.machine.proofs.State.verdict_at.Reads as reads
-use Rattle.machine.proofs.State.verdict_at.Lts as lts
-use Rattle.rules.proofs.verdict.Reads as verdict-reads
-use Rattle.tables.proofs.count_at.Reads as count-at-reads
-use Rattle.tables.proofs.sites_in.Reads as sites-in-reads
 
 count-at-requires : tie.Need-count-at-requires
-count-at-requires c κs = ?
+count-at-requires c κs = let u = usable-has _ (c .before .before .pre .0) in omega (arith, c .before .before .pre .1 .0, u .txns)
 
 sites-in-requires : tie.Need-sites-in-requires
-sites-in-requires c κs = ?
+sites-in-requires c κs = usable-has _ (c .before .before .before .before .before .pre .0) .groups
 
 verdict-requires : tie.Need-verdict-requires
-verdict-requires c κs = ?
+verdict-requires c κs = let u = usable-has _ (c .before .before .before .before .before .before .before .before .before .before .before .before .pre .0) in ((u .groups, rw (c .before .before .before .before .before .before .before .before .before .count-at .ensures .0) (u .short _ (c .before .before .before .before .before .before .before .before .before .before .before .before .pre .1 .0) .0)), (rw (c .before .before .before .before .before .before .sites-in .ensures .0) (u .sites), (omega (arith, c .before .before .before .before .before .before .before .before .before .before .before .before .pre .1 .0, u .txns), omega (arith, c .before .before .before .before .before .before .before .before .before .before .before .before .pre .1 .1, u .sites))))
 
 returns : tie.Need-returns
-returns c = ?
+returns c = rw (← c .before .before .before .before .before .before .before .before .before .before .count-at .ensures .0, ← c .before .before .before .before .before .before .before .sites-in .ensures .0) (c .verdict .ensures)
 
 pub verdict-at-spec : {M : Type 1} → statement M
 verdict-at-spec = tie.close (tie.spec count-at-requires sites-in-requires verdict-requires returns)

@@ -1,44 +1,53 @@
+-- `State::verdict_refusal` meets its contract. The tests stand in the order of `verdictRefusal`.
+use Prim.Native.Nat.{_<_}
 use native.Mathlib.Omega.{arith}
+use borrow.Author.Tests.{eq-eqb, ne-eqb}
 use borrow.Author.Needs.{needs}
+use Rattle.machine.specs.Refusals.{verdictRefusal}
+use Rattle.machine.proofs.Laws.{usable-has}
 use Rattle.machine.proofs.State.verdict_refusal.Statement.{statement}
 use Rattle.machine.proofs.State.verdict_refusal.Tie as tie
-use Rattle.machine.proofs.State.verdict_refusal.Reads as reads
-use Rattle.machine.proofs.State.verdict_refusal.Lts as lts
-use Rattle.machine.proofs.State.verdict_at.Reads as verdict-at-reads
-use Rattle.rules.proofs.has_room.Reads as has-room-reads
-use Rattle.rules.proofs.is_at_head.Reads as is-at-head-reads
-use Rattle.tables.proofs.count_at.Reads as count-at-reads
-use Rattle.tables.proofs.site_keys.Reads as site-keys-reads
+
+-- a transaction and a site within the tables
+low : (c : tie.Start) → (c .args .t < 128) × (c .args .s < 16)
+low c =
+    let u = usable-has _ (c .pre .0) in
+    (omega (arith, c .pre .1 .0, u .txns), omega (arith, c .pre .1 .1, u .sites))
 
 verdict-at-requires : tie.Need-verdict-at-requires
 verdict-at-requires c κs = search needs
 
 returns : tie.Need-returns
-returns c = ?
+unfolding verdictRefusal
+returns c = rw (← c .before .verdict-at .ensures, eq-eqb _ _ (c .if1 .taken))
 
 is-at-head-requires : tie.Need-is-at-head-requires
-is-at-head-requires c κs = ?
+is-at-head-requires c κs = (usable-has _ (c .before .before .before .before .before .before .before .pre .0) .txns, low (c .before .before .before .before .before .before .before))
 
 site-keys-requires : tie.Need-site-keys-requires
-site-keys-requires c κs = ?
+site-keys-requires c κs = usable-has _ (c .before .before .before .before .before .before .before .before .before .before .before .before .pre .0) .groups
 
 count-at-requires : tie.Need-count-at-requires
-count-at-requires c κs = ?
+count-at-requires c κs = low (c .before .before .before .before .before .before .before .before .before .before .before .before .before .before .before) .0
 
 has-room-requires : tie.Need-has-room-requires
-has-room-requires c κs = ?
+has-room-requires c κs = (rw (c .before .before .before .count-at .ensures .0) (usable-has _ (c .before .before .before .before .before .before .before .before .before .before .before .before .before .before .before .before .before .before .before .pre .0) .short _ (c .before .before .before .before .before .before .before .before .before .before .before .before .before .before .before .before .before .before .before .pre .1 .0) .1), low (c .before .before .before .before .before .before .before .before .before .before .before .before .before .before .before .before .before .before .before))
 
 returns-2 : tie.Need-returns-2
-returns-2 c = ?
+unfolding verdictRefusal
+returns-2 c = rw (← c .before .before .before .before .before .before .before .before .before .before .before .before .before .before .before .before .before .before .before .before .verdict-at .ensures, ne-eqb _ _ (c .before .before .before .before .before .before .before .before .before .before .before .before .before .before .before .before .before .before .before .if1 .left), eq-eqb _ _ (c .before .before .before .before .before .before .before .before .before .before .before .before .before .before .before .before .before .before .if2 .taken), ← c .before .before .before .before .before .before .before .before .before .before .before .before .before .is-at-head .ensures, c .before .before .before .before .before .before .before .before .before .before .before .before .if3 .taken, ← c .before .before .before .before .before .before .before .before .site-keys .ensures, ← c .before .before .before .before .before .count-at .ensures .0, ← c .before .has-room .ensures, c .if4 .taken)
 
 returns-3 : tie.Need-returns-3
-returns-3 c = ?
+unfolding verdictRefusal
+returns-3 c = rw (← c .before .before .before .before .before .before .before .before .before .before .before .before .before .before .before .before .before .before .before .before .verdict-at .ensures, ne-eqb _ _ (c .before .before .before .before .before .before .before .before .before .before .before .before .before .before .before .before .before .before .before .if1 .left), eq-eqb _ _ (c .before .before .before .before .before .before .before .before .before .before .before .before .before .before .before .before .before .before .if2 .taken), ← c .before .before .before .before .before .before .before .before .before .before .before .before .before .is-at-head .ensures, c .before .before .before .before .before .before .before .before .before .before .before .before .if3 .taken, ← c .before .before .before .before .before .before .before .before .site-keys .ensures, ← c .before .before .before .before .before .count-at .ensures .0, ← c .before .has-room .ensures, c .if4 .left)
 
 returns-4 : tie.Need-returns-4
-returns-4 c = ?
+unfolding verdictRefusal
+returns-4 c = rw (← c .before .before .before .before .before .before .before .before .verdict-at .ensures, ne-eqb _ _ (c .before .before .before .before .before .before .before .if1 .left), eq-eqb _ _ (c .before .before .before .before .before .before .if2 .taken), ← c .before .is-at-head .ensures, c .if3 .left)
 
 returns-5 : tie.Need-returns-5
-returns-5 c = ?
+unfolding verdictRefusal
+returns-5 c = rw (← c .before .before .verdict-at .ensures, ne-eqb _ _ (c .before .if1 .left), ne-eqb _ _ (c .if2 .left))
 
 pub verdict-refusal-spec : {M : Type 1} → statement M
 verdict-refusal-spec =

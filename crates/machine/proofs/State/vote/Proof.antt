@@ -1,31 +1,26 @@
+-- `State::vote` meets its contract. Whether s is in V(t) is `some_in` of the reads and the keys of s, and then it is `certify`.
 use native.Mathlib.Omega.{arith}
-use borrow.Author.Needs.{needs}
+use Rattle.machine.proofs.Laws.{usable-has}
 use Rattle.machine.proofs.State.vote.Statement.{statement}
 use Rattle.machine.proofs.State.vote.Tie as tie
-use Rattle.machine.proofs.State.vote.Reads as reads
-use Rattle.machine.proofs.State.vote.Lts as lts
-use Rattle.rules.proofs.certify.Reads as certify-reads
-use Rattle.tables.proofs.count_at.Reads as count-at-reads
-use Rattle.tables.proofs.site_keys.Reads as site-keys-reads
-use Rattle.tables.proofs.some_in.Reads as some-in-reads
 
 site-keys-requires : tie.Need-site-keys-requires
-site-keys-requires c κs = ?
+site-keys-requires c κs = usable-has _ (c .before .before .before .pre .0) .groups
 
 count-at-requires : tie.Need-count-at-requires
-count-at-requires c κs = ?
+count-at-requires c κs = let u = usable-has _ (c .before .before .before .before .before .before .pre .0) in omega (arith, c .before .before .before .before .before .before .pre .1 .0, u .txns)
 
 some-in-requires : tie.Need-some-in-requires
-some-in-requires c κs = ?
+some-in-requires c κs = let u = usable-has _ (c .before .before .before .before .before .before .before .before .before .pre .0) in (omega (arith, c .before .before .before .before .before .before .before .before .before .pre .1 .0, u .txns), rw (c .before .before .count-at .ensures .0) (u .short _ (c .before .before .before .before .before .before .before .before .before .pre .1 .0) .0))
 
 certify-requires : tie.Need-certify-requires
-certify-requires c κs = ?
+certify-requires c κs = let u = usable-has _ (c .before .before .before .before .before .before .before .before .before .before .before .before .before .before .before .before .pre .0) in (rw (c .before .before .before .before .before .before .before .before .before .count-at .ensures .0) (u .short _ (c .before .before .before .before .before .before .before .before .before .before .before .before .before .before .before .before .pre .1 .0) .0), (omega (arith, c .before .before .before .before .before .before .before .before .before .before .before .before .before .before .before .before .pre .1 .0, u .txns), omega (arith, c .before .before .before .before .before .before .before .before .before .before .before .before .before .before .before .before .pre .1 .1, u .sites)))
 
 returns : tie.Need-returns
-returns c = ?
+returns c = rw (← c .before .before .before .before .before .before .before .before .before .before .before .before .before .site-keys .ensures, ← c .before .before .before .before .before .before .before .before .before .before .count-at .ensures .0, ← c .before .before .before .before .before .before .before .some-in .ensures, c .before .before .before .before .before .before .if1 .taken) (c .certify .ensures)
 
 returns-2 : tie.Need-returns-2
-returns-2 c = ?
+returns-2 c = rw (← c .before .before .before .before .before .before .before .site-keys .ensures, ← c .before .before .before .before .count-at .ensures .0, ← c .before .some-in .ensures, c .if1 .left)
 
 pub vote-spec : {M : Type 1} → statement M
 vote-spec =

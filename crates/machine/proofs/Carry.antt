@@ -1,0 +1,71 @@
+-- What an accepted DELIVER or CARRY says of its sites and its transaction.
+-- Assumes nothing.
+use Prim.Native.Nat.{ℕ, _≤_, _<_}
+use mathlib.Core.Path.{_≡_, refl}
+use mathlib.Core.Bool.{Bool, true, false, _||_, not, cond}
+use mathlib.Core.Logic.{inl, inr}
+use native.Mathlib.Omega.{arith}
+use lib.Dec.{leb, eqb}
+use borrow.Author.Tests.{leb-false, eqb-false}
+use Rattle.bounded.proofs.Truth.{or-false}
+use Rattle.bounded.proofs.Laws.{first-is}
+use Rattle.keys.specs.Keys.{member}
+use Rattle.tables.specs.Sites.{siteCount}
+use Rattle.tables.specs.Concern.{concerns, local}
+use Rattle.rules.specs.Cells.{placeIn, nobody}
+use Rattle.rules.specs.Queue.{waits, nextIn}
+use Rattle.machine.specs.Parts.{placeOf, deliveredAt, castBy, carriedTo}
+use Rattle.machine.specs.Rules.{nextAt, holdsVoteOf}
+use Rattle.machine.specs.Usable.{usable}
+use Rattle.machine.specs.Refusals.{deliverRefusal, voteRefusal, carryRefusal}
+use Rattle.machine.proofs.Laws.{usable-has}
+use Rattle.machine.specs.declared.State.{State}
+
+-- a test that would refuse by n did not
+pub passed : (n : ℕ) → 0 < n → (b : Bool) (k : ℕ) → cond b n k ≡ 0 → (b ≡ false) × (k ≡ 0)
+passed n l true k h = absurd (omega arith)
+passed n l false k h = (refl, h)
+
+-- the next to deliver, where there is one, is a transaction
+pub next-low : (st : State) (s : ℕ) → st .tables .txns ≤ 128 → (nextAt st s ≡ 128 → ⊥) → nextAt st s < st .tables .txns
+unfolding nextIn
+next-low st s l d =
+    elim (first-is (st .tables .txns) (placeIn (st .places)) (λ t. waits (placeOf st t) (deliveredAt st t s) (concerns (st .tables) t s)) nobody l) [
+      | inl f ↦ f .low
+      | inr n ↦ absurd (d (n .0))
+    ]
+
+-- DELIVER accepted: s is a site, and what it delivers a transaction
+pub deliver-has : (st : State) (s : ℕ) → usable st ≡ true → deliverRefusal st s ≡ 0
+    → (s < siteCount (st .tables)) × (nextAt st s < st .tables .txns)
+unfolding deliverRefusal
+deliver-has st s u h =
+    let (a, h1) = passed 21 (omega arith) (leb (siteCount (st .tables)) s) _ h in
+    (leb-false _ _ a, next-low st s (usable-has st u .txns) (eqb-false _ _ (passed 26 (omega arith) (eqb (nextAt st s) nobody) _ h1 .0)))
+
+-- CARRY accepted: t is a transaction, from and to are two sites, and to has no vote of from
+pub record Carries (st : State) (t from to : ℕ) : Type 0 where
+  pub txn : t < st .tables .txns
+  pub giver : from < siteCount (st .tables)
+  pub taker : to < siteCount (st .tables)
+  pub differ : from ≡ to → ⊥
+  pub lacks : member (carriedTo st t to) from ≡ false
+
+pub carry-has : (st : State) (t from to : ℕ) → carryRefusal st t from to ≡ 0 → Carries st t from to
+unfolding carryRefusal voteRefusal
+carry-has st t from to h =
+    let n = siteCount (st .tables) in
+    let (a, h1) = passed 20 (omega arith) (leb (st .tables .txns) t) _ h in
+    let (b, h2) = passed 21 (omega arith) (leb n from || leb n to) _ h1 in
+    let (f, g) = or-false (leb n from) (leb n to) b in
+    let h3 = passed 23 (omega arith) (not (concerns (st .tables) t to)) _ h2 .1 in
+    let (e, h4) = passed 28 (omega arith) (local (st .tables) t || (eqb from to || eqb (castBy st t from) 0)) _ h3 in
+    let z = passed 24 (omega arith) (holdsVoteOf st t to from) _ h4 .0 in
+    let d = or-false (eqb from to) _ (or-false (local (st .tables) t) _ e .1) .0 in
+    record {
+      txn = leb-false _ _ a;
+      giver = leb-false _ _ f;
+      taker = leb-false _ _ g;
+      differ = eqb-false _ _ d;
+      lacks = rw d at z;
+    }

@@ -1,0 +1,107 @@
+-- What SETTLE takes next is accepted, and one turn of it.
+-- Assumes nothing.
+use Prim.Native.Nat.{ℕ, zero, suc, _+_, _-_, _≤_, _<_}
+use mathlib.Core.Path.{_≡_, refl, sym, ap, _∙_}
+use mathlib.Core.Bool.{Bool, true, false, cond}
+use mathlib.Core.Logic.{_⊎_, inl, inr}
+use native.Mathlib.Omega.{arith}
+use lib.Dec.{eqb, ltb}
+use borrow.Author.Tests.{ltb-true, eqb-true}
+use Rattle.bounded.specs.Bounded.{firstBelow, leastBelow}
+use Rattle.bounded.proofs.Truth.{bool, clash}
+use Rattle.bounded.proofs.Laws.{First, first-is}
+use Rattle.tables.specs.Sites.{siteCount}
+use Rattle.rules.specs.Cells.{nobody, placeIn}
+use Rattle.machine.specs.Parts.{placeOf, withClosed}
+use Rattle.machine.specs.Rules.{verdict}
+use Rattle.machine.specs.Usable.{usable}
+use Rattle.machine.specs.Refusals.{deliverRefusal, carryRefusal, closeRefusal}
+use Rattle.machine.specs.Effects.{giving, deliverDone, carryDone, committed, closeDone}
+use Rattle.machine.specs.Settle.{nowhere, closesFirst, firstClosing, firstDelivering, firstTo, firstFrom, firstCarried, todo, after, settleFor}
+use Rattle.machine.specs.declared.State.{State}
+use Rattle.machine.specs.declared.Todo.{Todo}
+use Rattle.machine.specs.declared.Todo.the-variants.{Close, Deliver, Carry, Nothing}
+use Rattle.steps.specs.declared.Answer.the-variants as answer
+use Rattle.machine.proofs.Laws.{Usable, usable-has}
+
+-- a search that answers below d has found what passes
+found : (n : ℕ) (rank : ℕ → ℕ) (p : ℕ → Bool) (d : ℕ) → n ≤ d → ltb (firstBelow n rank p d) d ≡ true → p (firstBelow n rank p d) ≡ true
+found n rank p d b l = elim (first-is n rank p d b) [
+  | inl g ↦ g .passes
+  | inr q ↦ absurd (omega (arith, ltb-true (firstBelow n rank p d) d l, q .0))
+]
+
+module _ (st : State) (u : Usable st) where
+  close-first : ltb (firstClosing st) nowhere ≡ true → closeRefusal st (closesFirst st (firstClosing st)) (firstClosing st) ≡ 0
+  unfolding firstClosing closesFirst
+  close-first e =
+      let s = leastBelow (siteCount (st .tables)) (λ s. ltb (closesFirst st s) nobody) nowhere in
+      eqb-true _ _ (found (st .tables .txns) (placeIn (st .places)) (λ t. eqb (closeRefusal st t s) 0) nobody (u .txns)
+      (found (siteCount (st .tables)) (λ i. 0) (λ s. ltb (closesFirst st s) nobody) nowhere (u .sites) e))
+
+  deliver-first : ltb (firstDelivering st) nowhere ≡ true → deliverRefusal st (firstDelivering st) ≡ 0
+  unfolding firstDelivering
+  deliver-first e = eqb-true _ _ (found (siteCount (st .tables)) (λ i. 0) (λ s. eqb (deliverRefusal st s) 0) nowhere (u .sites) e)
+
+  carry-first : ltb (firstCarried st) nobody ≡ true
+      → let t = firstCarried st in carryRefusal st t (firstFrom st t) (firstTo st t (firstFrom st t)) ≡ 0
+  unfolding firstCarried
+  carry-first e =
+      let t = firstBelow (st .tables .txns) (placeIn (st .places)) (λ t. ltb (firstFrom st t) nowhere) nobody in
+      to t (firstFrom st t) (from t (found (st .tables .txns) (placeIn (st .places)) (λ t. ltb (firstFrom st t) nowhere) nobody (u .txns) e))
+    where
+      from : (t : ℕ) → ltb (firstFrom st t) nowhere ≡ true → ltb (firstTo st t (firstFrom st t)) nowhere ≡ true
+      from t h = unfold firstFrom in found (siteCount (st .tables)) (λ i. 0) (λ f. ltb (firstTo st t f) nowhere) nowhere (u .sites) h
+
+      to : (t f : ℕ) → ltb (firstTo st t f) nowhere ≡ true → carryRefusal st t f (firstTo st t f) ≡ 0
+      to t f h = unfold firstTo in eqb-true _ _ (found (siteCount (st .tables)) (λ i. 0) (λ s. eqb (carryRefusal st t f s) 0) nowhere (u .sites) h)
+
+-- what SETTLE takes next is accepted
+abbrev pub Accepted : State → Todo → Type 0
+Accepted st (Close t s) = closeRefusal st t s ≡ 0
+Accepted st (Deliver s) = deliverRefusal st s ≡ 0
+Accepted st (Carry t from to) = carryRefusal st t from to ≡ 0
+Accepted st Nothing = Unit {0}
+
+pub todo-accepted : (st : State) → usable st ≡ true → Accepted st (todo st)
+unfolding todo
+todo-accepted st h = closing (ltb (firstClosing st) nowhere) refl
+  where
+    carrying : (b : Bool) → ltb (firstCarried st) nobody ≡ b
+        → Accepted st (cond b (Carry (firstCarried st) (firstFrom st (firstCarried st)) (firstTo st (firstCarried st) (firstFrom st (firstCarried st)))) Nothing)
+    carrying true e = carry-first st (usable-has st h) e
+    carrying false e = tt
+
+    delivering : (b : Bool) → ltb (firstDelivering st) nowhere ≡ b
+        → Accepted st (cond b (Deliver (firstDelivering st)) (cond (ltb (firstCarried st) nobody) (Carry (firstCarried st) (firstFrom st (firstCarried st)) (firstTo st (firstCarried st) (firstFrom st (firstCarried st)))) Nothing))
+    delivering true e = deliver-first st (usable-has st h) e
+    delivering false e = carrying (ltb (firstCarried st) nobody) refl
+
+    closing : (b : Bool) → ltb (firstClosing st) nowhere ≡ b
+        → Accepted st (cond b (Close (closesFirst st (firstClosing st)) (firstClosing st)) (cond (ltb (firstDelivering st) nowhere) (Deliver (firstDelivering st)) (cond (ltb (firstCarried st) nobody) (Carry (firstCarried st) (firstFrom st (firstCarried st)) (firstTo st (firstCarried st) (firstFrom st (firstCarried st)))) Nothing)))
+    closing true e = close-first st (usable-has st h) e
+    closing false e = delivering (ltb (firstDelivering st) nowhere) refl
+
+-- a step of SETTLE leaves a usable state usable
+pub after-usable : (st : State) (x : Todo) → usable st ≡ true → usable (after st x) ≡ true
+unfolding usable deliverDone carryDone closeDone committed
+after-usable st (Close t s) h = stored (eqb (verdict st t s) 1)
+  where
+    stored : (b : Bool) → usable (withClosed (cond b (committed st t s) st) t s (verdict st t s)) ≡ true
+    stored true = h
+    stored false = h
+after-usable st (Deliver s) h = h
+after-usable st (Carry t from to) h = h
+after-usable st Nothing h = h
+
+-- one turn: it stops where nothing is left, else goes on
+pub settle-stops : (f n : ℕ) (st : State) → todo st ≡ Nothing → settleFor (suc f) n st ≡ giving (answer.Settled n) st
+unfolding settleFor
+settle-stops f n st e = rw (e, settleFor)
+
+pub settle-goes : (f n : ℕ) (st : State) (x : Todo) → todo st ≡ x → (x ≡ Nothing → ⊥) → settleFor (suc f) n st ≡ settleFor f (n + 1) (after st x)
+unfolding settleFor
+settle-goes f n st (Close t s) e d = rw (e, settleFor)
+settle-goes f n st (Deliver s) e d = rw (e, settleFor)
+settle-goes f n st (Carry t from to) e d = rw (e, settleFor)
+settle-goes f n st Nothing e d = absurd (d refl)
