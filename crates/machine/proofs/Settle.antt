@@ -1,10 +1,15 @@
 -- What SETTLE takes next is accepted, and one turn of it.
 -- Assumes nothing.
 use Prim.Native.Nat.{ℕ, zero, suc, _+_, _-_, _≤_, _<_}
-use mathlib.Core.Path.{_≡_, refl, sym, ap, _∙_}
+use mathlib.Core.Path.{_≡_, refl, sym, subst, _∙_}
 use mathlib.Core.Bool.{Bool, true, false, cond}
 use mathlib.Core.Logic.{_⊎_, inl, inr}
+use mathlib.Core.List.{[], _∷_}
+use types.Run.{OneOf, miss}
+use denote.Enum.Declared.{tagOf}
 use native.Mathlib.Omega.{arith}
+use native.Mathlib.Numerals.{sub-one}
+use native.Mathlib.Nat.{not-suc-le-zero}
 use lib.Dec.{eqb, ltb}
 use borrow.Author.Tests.{ltb-true, eqb-true}
 use Rattle.bounded.specs.Bounded.{firstBelow, leastBelow}
@@ -15,13 +20,16 @@ use Rattle.rules.specs.Cells.{nobody, placeIn}
 use Rattle.machine.specs.Parts.{placeOf, withClosed}
 use Rattle.machine.specs.Rules.{verdict}
 use Rattle.machine.specs.Usable.{usable}
-use Rattle.machine.specs.Refusals.{deliverRefusal, carryRefusal, closeRefusal}
+use Rattle.machine.specs.Refusals.{deliverRefusal, carryRefusal, closeRefusal, refusal}
 use Rattle.machine.specs.Effects.{giving, deliverDone, carryDone, committed, closeDone}
 use Rattle.machine.specs.Settle.{nowhere, closesFirst, firstClosing, firstDelivering, firstTo, firstFrom, firstCarried, todo, after, settleFor}
+use Rattle.machine.specs.Steps.{done, decided}
 use Rattle.machine.specs.declared.State.{State}
 use Rattle.machine.specs.declared.Todo.{Todo}
 use Rattle.machine.specs.declared.Todo.the-variants.{Close, Deliver, Carry, Nothing}
+use Rattle.steps.specs.declared.Step.{Step}
 use Rattle.steps.specs.declared.Answer.the-variants as answer
+use Rattle.machine.proofs.Todo as kind
 use Rattle.machine.proofs.Laws.{Usable, usable-has}
 
 -- a search that answers below d has found what passes
@@ -94,14 +102,33 @@ after-usable st (Deliver s) h = h
 after-usable st (Carry t from to) h = h
 after-usable st Nothing h = h
 
--- one turn: it stops where nothing is left, else goes on
-pub settle-stops : (f n : ℕ) (st : State) → todo st ≡ Nothing → settleFor (suc f) n st ≡ giving (answer.Settled n) st
+-- one turn: it stops where nothing is left, else goes on; and it ends with its fuel
+pub settle-stops : (f n : ℕ) (st : State) → 0 < f → todo st ≡ Nothing → settleFor f n st ≡ giving (answer.Settled n) st
 unfolding settleFor
-settle-stops f n st e = rw (e, settleFor)
+settle-stops zero n st l e = absurd (not-suc-le-zero l)
+settle-stops (suc f) n st l e = rw (e, settleFor)
 
-pub settle-goes : (f n : ℕ) (st : State) (x : Todo) → todo st ≡ x → (x ≡ Nothing → ⊥) → settleFor (suc f) n st ≡ settleFor f (n + 1) (after st x)
+pub settle-goes : (f n : ℕ) (st : State) (x : Todo) → 0 < f → todo st ≡ x → (x ≡ Nothing → ⊥) → settleFor f n st ≡ settleFor (f - 1) (n + 1) (after st x)
 unfolding settleFor
-settle-goes f n st (Close t s) e d = rw (e, settleFor)
-settle-goes f n st (Deliver s) e d = rw (e, settleFor)
-settle-goes f n st (Carry t from to) e d = rw (e, settleFor)
-settle-goes f n st Nothing e d = absurd (d refl)
+settle-goes zero n st x l e d = absurd (not-suc-le-zero l)
+settle-goes (suc f) n st (Close t s) l e d = rw (e, settleFor, sub-one)
+settle-goes (suc f) n st (Deliver s) l e d = rw (e, settleFor, sub-one)
+settle-goes (suc f) n st (Carry t from to) l e d = rw (e, settleFor, sub-one)
+settle-goes (suc f) n st Nothing l e d = absurd (d refl)
+
+pub settle-ends : (f n : ℕ) (st : State) → f ≡ 0 → settleFor f n st ≡ giving (answer.Settled n) st
+unfolding settleFor
+settle-ends f n st e = rw e
+
+-- an accepted step does what it does
+pub taken : (st : State) (x : Step) → refusal st x ≡ 0 → decided st x ≡ done st x
+unfolding decided
+taken st x e = rw e
+
+-- what is next, where it is known to be x
+pub next-accepted : (st : State) (x y : Todo) → usable st ≡ true → x ≡ todo st → x ≡ y → Accepted st y
+next-accepted st x y h e d = subst (Accepted st) (sym e ∙ d) (todo-accepted st h)
+
+-- the other arm of the test for nothing left
+pub something : (x : Todo) → OneOf (0 ∷ 1 ∷ 2 ∷ []) (tagOf kind.the-type x) → x ≡ Nothing → ⊥
+something x k e = miss (0 ∷ 1 ∷ 2 ∷ []) 3 tt (subst (λ (y : Todo). OneOf (0 ∷ 1 ∷ 2 ∷ []) (tagOf kind.the-type y)) e k)

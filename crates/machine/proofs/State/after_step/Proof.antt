@@ -1,3 +1,10 @@
+use Rattle.machine.proofs.Settle.{taken, next-accepted}
+use Rattle.machine.proofs.Settle.{Accepted, todo-accepted}
+use Rattle.machine.specs.declared.Todo.{Todo}
+use Rattle.machine.specs.Steps.{done, decided}
+use Rattle.machine.specs.Refusals.{refusal}
+use borrow.Author.Tests.{eq-eqb}
+use mathlib.Core.Path.{_≡_, refl, sym, ap, subst, _∙_}
 use native.Mathlib.Omega.{arith}
 use borrow.Author.Needs.{needs}
 use Rattle.machine.proofs.State.after_step.Statement.{statement}
@@ -12,34 +19,37 @@ enum-known-x : tie.Need-enum-known-x
 enum-known-x c = search needs
 
 take-close-requires : tie.Need-take-close-requires
-take-close-requires c κs = search needs
+take-close-requires c κs = c .before .before .before .pre .0
 
 enum-known-x-2 : tie.Need-enum-known-x-2
 enum-known-x-2 c = search needs
 
 take-deliver-requires : tie.Need-take-deliver-requires
-take-deliver-requires c κs = search needs
+take-deliver-requires c κs = c .before .before .before .pre .0
 
 enum-known-x-3 : tie.Need-enum-known-x-3
 enum-known-x-3 c = search needs
 
 take-carry-requires : tie.Need-take-carry-requires
-take-carry-requires c κs = search needs
+take-carry-requires c κs = c .before .before .before .pre .0
 
 enum-told : tie.Need-enum-told
 enum-told c = search needs
 
 returns : tie.Need-returns
-returns c = ?
+unfolding refusal done
+returns c = rw (c .before .before .before .x .given .1) (ap (λ r. r .next) (c .before .take-close .ensures ∙ taken _ _ (next-accepted _ _ _ (c .before .before .before .before .before .pre .0) (c .before .before .before .before .before .pre .1) (c .before .before .before .x .given .1))))
 
 returns-2 : tie.Need-returns-2
-returns-2 c = ?
+unfolding refusal done
+returns-2 c = rw (c .before .before .before .x2 .given .1) (ap (λ r. r .next) (c .before .take-deliver .ensures ∙ taken _ _ (next-accepted _ _ _ (c .before .before .before .before .before .pre .0) (c .before .before .before .before .before .pre .1) (c .before .before .before .x2 .given .1))))
 
 returns-3 : tie.Need-returns-3
-returns-3 c = ?
+unfolding refusal done
+returns-3 c = rw (c .before .before .before .x3 .given .1) (ap (λ r. r .next) (c .before .take-carry .ensures ∙ taken _ _ (next-accepted _ _ _ (c .before .before .before .before .before .pre .0) (c .before .before .before .before .before .pre .1) (c .before .before .before .x3 .given .1))))
 
 returns-4 : tie.Need-returns-4
-returns-4 c = ?
+returns-4 c = rw (c .enum-told .given .1)
 
 pub after-step-spec : {M : Type 1} → statement M
 after-step-spec =

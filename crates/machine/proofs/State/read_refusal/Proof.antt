@@ -1,35 +1,35 @@
+-- `State::read_refusal` meets its contract. Each arm's tests are those of `readRefusal`, in its order; a usable state keeps every index in range.
+use borrow.Author.Tests.{le-leb, lt-leb}
+use Rattle.machine.proofs.Laws.{usable-has}
+use Rattle.machine.specs.Refusals.{readRefusal}
 use native.Mathlib.Omega.{arith}
 use borrow.Author.Needs.{needs}
 use Rattle.machine.proofs.State.read_refusal.Statement.{statement}
 use Rattle.machine.proofs.State.read_refusal.Tie as tie
-use Rattle.machine.proofs.State.read_refusal.Reads as reads
-use Rattle.machine.proofs.State.read_refusal.Lts as lts
-use Rattle.keys.proofs.has_key.Reads as has-key-reads
-use Rattle.tables.proofs.count_at.Reads as count-at-reads
-use Rattle.tables.proofs.key_at.Reads as key-at-reads
-use Rattle.tables.proofs.site_keys.Reads as site-keys-reads
-use Rattle.tables.proofs.sites_in.Reads as sites-in-reads
 
 returns : tie.Need-returns
-returns c = ?
+unfolding readRefusal
+returns c = rw (le-leb _ _ (c .if1 .taken))
 
 count-at-requires : tie.Need-count-at-requires
-count-at-requires c κs = ?
+count-at-requires c κs = omega (arith, c .before .before .if1 .left, usable-has _ (c .before .before .before .pre) .txns)
 
 returns-2 : tie.Need-returns-2
-returns-2 c = ?
+unfolding readRefusal
+returns-2 c = rw (lt-leb _ _ (c .before .before .before .before .if1 .left), ← c .before .count-at .ensures .0, le-leb _ _ (c .if2 .taken))
 
 sites-in-requires : tie.Need-sites-in-requires
-sites-in-requires c κs = ?
+sites-in-requires c κs = usable-has _ (c .before .before .before .before .before .before .before .pre) .groups
 
 returns-3 : tie.Need-returns-3
-returns-3 c = ?
+unfolding readRefusal
+returns-3 c = rw (lt-leb _ _ (c .before .before .before .before .before .before .before .before .if1 .left), ← c .before .before .before .before .before .count-at .ensures .0, lt-leb _ _ (c .before .before .before .before .if2 .left), ← c .before .sites-in .ensures .0, le-leb _ _ (c .if3 .taken))
 
 site-keys-requires : tie.Need-site-keys-requires
-site-keys-requires c κs = ?
+site-keys-requires c κs = usable-has _ (c .before .before .before .before .before .before .before .before .before .before .before .before .pre) .groups
 
 key-at-requires : tie.Need-key-at-requires
-key-at-requires c κs = ?
+key-at-requires c κs = let u = usable-has _ (c .before .before .before .before .before .before .before .before .before .before .before .before .before .before .before .pre) in (omega (arith, c .before .before .before .before .before .before .before .before .before .before .before .before .before .before .if1 .left, u .txns), omega (arith, c .before .before .before .before .before .before .before .before .before .before .if2 .left, c .before .before .before .before .before .before .before .before .before .before .before .count-at .ensures .0, u .reads _ (c .before .before .before .before .before .before .before .before .before .before .before .before .before .before .if1 .left) .few))
 
 has-key-requires : tie.Need-has-key-requires
 has-key-requires c κs = search needs
@@ -41,16 +41,19 @@ add-if5 : tie.Need-add-if5
 add-if5 c = search needs
 
 element-copy-out-if5 : tie.Need-element-copy-out-if5
-element-copy-out-if5 c = ?
+element-copy-out-if5 c = let u = usable-has _ (c .before .before .before .before .before .before .before .before .before .before .before .before .before .before .before .before .before .before .pre) in omega (arith, c .before .before .before .before .before .before .before .before .before .before .before .before .before .before .before .before .before .if1 .left, u .txns, c .before .before .before .before .before .before .before .before .before .before .before .before .before .if2 .left, c .before .before .before .before .before .before .before .before .before .before .before .before .before .before .count-at .ensures .0, u .reads _ (c .before .before .before .before .before .before .before .before .before .before .before .before .before .before .before .before .before .if1 .left) .few)
 
 returns-4 : tie.Need-returns-4
-returns-4 c = ?
+unfolding readRefusal
+returns-4 c = rw (lt-leb _ _ (c .before .before .before .before .before .before .before .before .before .before .before .before .before .before .before .before .before .before .before .if1 .left), ← c .before .before .before .before .before .before .before .before .before .before .before .before .before .before .before .before .count-at .ensures .0, lt-leb _ _ (c .before .before .before .before .before .before .before .before .before .before .before .before .before .before .before .if2 .left), ← c .before .before .before .before .before .before .before .before .before .before .before .before .sites-in .ensures .0, lt-leb _ _ (c .before .before .before .before .before .before .before .before .before .before .before .if3 .left), ← c .before .before .before .before .before .before .before .site-keys .ensures, ← c .before .before .before .before .key-at .ensures, ← c .before .before .before .has-key .ensures, c .before .before .if4 .taken, c .if5 .taken)
 
 returns-5 : tie.Need-returns-5
-returns-5 c = ?
+unfolding readRefusal
+returns-5 c = rw (lt-leb _ _ (c .before .before .before .before .before .before .before .before .before .before .before .before .before .before .before .before .before .before .before .if1 .left), ← c .before .before .before .before .before .before .before .before .before .before .before .before .before .before .before .before .count-at .ensures .0, lt-leb _ _ (c .before .before .before .before .before .before .before .before .before .before .before .before .before .before .before .if2 .left), ← c .before .before .before .before .before .before .before .before .before .before .before .before .sites-in .ensures .0, lt-leb _ _ (c .before .before .before .before .before .before .before .before .before .before .before .if3 .left), ← c .before .before .before .before .before .before .before .site-keys .ensures, ← c .before .before .before .before .key-at .ensures, ← c .before .before .before .has-key .ensures, c .before .before .if4 .taken, c .if5 .left)
 
 returns-6 : tie.Need-returns-6
-returns-6 c = ?
+unfolding readRefusal
+returns-6 c = rw (lt-leb _ _ (c .before .before .before .before .before .before .before .before .before .before .before .before .before .before .before .before .before .if1 .left), ← c .before .before .before .before .before .before .before .before .before .before .before .before .before .before .count-at .ensures .0, lt-leb _ _ (c .before .before .before .before .before .before .before .before .before .before .before .before .before .if2 .left), ← c .before .before .before .before .before .before .before .before .before .before .sites-in .ensures .0, lt-leb _ _ (c .before .before .before .before .before .before .before .before .before .if3 .left), ← c .before .before .before .before .before .site-keys .ensures, ← c .before .before .key-at .ensures, ← c .before .has-key .ensures, c .if4 .left)
 
 pub read-refusal-spec : {M : Type 1} → statement M
 read-refusal-spec =

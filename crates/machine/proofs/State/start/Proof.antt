@@ -1,20 +1,22 @@
+-- `State::start` meets its contract. The invariant: the first j values are the first values of the tables (`Filled`).
+use native.Mathlib.Nat.{not-suc-le-zero}
+use Prim.Native.Nat.{_-_}
+use mathlib.Core.Path.{refl}
+use Rattle.machine.proofs.Start.{Filled, fill-more, fill-all}
+use Rattle.machine.specs.Fresh.{startOf}
 use native.Mathlib.Omega.{arith}
 use borrow.Author.Needs.{needs}
 use Rattle.machine.proofs.State.start.Statement.{statement}
 use Rattle.machine.proofs.State.start.Tie as tie
-use Rattle.machine.proofs.State.start.Reads as reads
-use Rattle.machine.proofs.State.start.Lts as lts
-use Rattle.machine.proofs.held_value.Reads as held-value-reads
-use Rattle.tables.proofs.site_keys.Reads as site-keys-reads
 
 abbrev Inv-loop : tie.InvT-loop
-Inv-loop tables values₀ j₀ values j = ?
+Inv-loop tables values₀ j₀ values j = Filled tables values j
 
 abbrev μ-loop : tie.MeasureT-loop
-μ-loop tables values₀ j₀ values j = ?
+μ-loop tables values₀ j₀ values j = 1024 - j
 
 loop-holds : tie.Need-loop-holds Inv-loop μ-loop
-loop-holds c = ?
+loop-holds c = record { few = omega arith; long = refl; each = λ i l. absurd (not-suc-le-zero l) }
 
 site-keys-requires : tie.Need-site-keys-requires Inv-loop μ-loop
 site-keys-requires c κs = search needs
@@ -38,13 +40,14 @@ add-j : tie.Need-add-j Inv-loop μ-loop
 add-j c = search needs
 
 loop-less : tie.Need-loop-less Inv-loop μ-loop
-loop-less c = ?
+loop-less c = omega (arith, c .before .before .before .before .before .before .loop-test .taken)
 
 loop-again : tie.Need-loop-again Inv-loop μ-loop
-loop-again c = ?
+loop-again c = fill-more _ _ _ _ (c .before .before .before .before .before .before .before .loop .inv) (c .before .before .before .before .before .before .loop-test .taken) (rw (← c .before .before .site-keys .ensures) (c .held-value .ensures))
 
 returns : tie.Need-returns Inv-loop μ-loop
-returns c = ?
+unfolding startOf
+returns c = rw (fill-all _ _ _ (c .before .loop .inv) (c .loop-test .left))
 
 pub start-spec : {M : Type 1} → statement M
 start-spec =

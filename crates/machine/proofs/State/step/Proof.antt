@@ -1,23 +1,23 @@
-use native.Mathlib.Omega.{arith}
+-- `State::step` meets its contract. Its one test is that of `stepOf`.
+use mathlib.Core.Path.{sym, _∙_}
+use Rattle.machine.specs.Steps.{stepOf}
 use borrow.Author.Needs.{needs}
 use Rattle.machine.proofs.State.step.Statement.{statement}
 use Rattle.machine.proofs.State.step.Tie as tie
-use Rattle.machine.proofs.State.step.Reads as reads
-use Rattle.machine.proofs.State.step.Lts as lts
-use Rattle.machine.proofs.State.is_usable.Reads as is-usable-reads
-use Rattle.machine.proofs.State.take.Reads as take-reads
 
 is-usable-requires : tie.Need-is-usable-requires
 is-usable-requires c κs = search needs
 
 take-requires : tie.Need-take-requires
-take-requires c κs = ?
+take-requires c κs = sym (c .before .is-usable .ensures) ∙ c .if1 .taken
 
 returns : tie.Need-returns
-returns c = ?
+unfolding stepOf
+returns c = rw (← c .before .before .is-usable .ensures, c .before .if1 .taken) (c .take .ensures)
 
 returns-2 : tie.Need-returns-2
-returns-2 c = ?
+unfolding stepOf
+returns-2 c = rw (← c .before .is-usable .ensures, c .if1 .left)
 
 pub step-spec : {M : Type 1} → statement M
 step-spec = tie.close (tie.spec is-usable-requires take-requires returns returns-2)

@@ -1,15 +1,7 @@
-use native.Mathlib.Omega.{arith}
+-- `State::take` meets its contract. Each arm knows its step, and the callee's contract is the arm's.
 use borrow.Author.Needs.{needs}
 use Rattle.machine.proofs.State.take.Statement.{statement}
 use Rattle.machine.proofs.State.take.Tie as tie
-use Rattle.machine.proofs.State.take.Reads as reads
-use Rattle.machine.proofs.State.take.Lts as lts
-use Rattle.machine.proofs.State.take_carry.Reads as take-carry-reads
-use Rattle.machine.proofs.State.take_close.Reads as take-close-reads
-use Rattle.machine.proofs.State.take_deliver.Reads as take-deliver-reads
-use Rattle.machine.proofs.State.take_read.Reads as take-read-reads
-use Rattle.machine.proofs.State.take_settle.Reads as take-settle-reads
-use Rattle.machine.proofs.State.take_submit.Reads as take-submit-reads
 
 enum-known-x : tie.Need-enum-known-x
 enum-known-x c = search needs
@@ -48,22 +40,22 @@ take-settle-requires : tie.Need-take-settle-requires
 take-settle-requires c κs = search needs
 
 returns : tie.Need-returns
-returns c = ?
+returns c = rw (c .before .before .x .given .1) (c .take-read .ensures)
 
 returns-2 : tie.Need-returns-2
-returns-2 c = ?
+returns-2 c = rw (c .before .before .x2 .given .1) (c .take-submit .ensures)
 
 returns-3 : tie.Need-returns-3
-returns-3 c = ?
+returns-3 c = rw (c .before .before .x3 .given .1) (c .take-deliver .ensures)
 
 returns-4 : tie.Need-returns-4
-returns-4 c = ?
+returns-4 c = rw (c .before .before .x4 .given .1) (c .take-carry .ensures)
 
 returns-5 : tie.Need-returns-5
-returns-5 c = ?
+returns-5 c = rw (c .before .before .x5 .given .1) (c .take-close .ensures)
 
 returns-6 : tie.Need-returns-6
-returns-6 c = ?
+returns-6 c = rw (c .before .enum-told .given .1) (c .take-settle .ensures)
 
 pub take-spec : {M : Type 1} → statement M
 take-spec =
