@@ -2,7 +2,7 @@
 -- Assumes nothing.
 use Prim.Native.Nat.{ℕ}
 use mathlib.Core.Path.{_≡_, refl, sym, _∙_}
-use mathlib.Core.Bool.{Bool, true, false, _&&_, _||_, not, true≢false}
+use mathlib.Core.Bool.{Bool, true, false, _&&_, _||_, true≢false}
 use mathlib.Core.Logic.{_⊎_, inl, inr}
 use lib.Dec.{eqb}
 use borrow.Author.Tests.{eqb-true, eqb-false}
@@ -40,3 +40,7 @@ clash p q = absurd (true≢false (sym p ∙ q))
 
 pub same : (a b : ℕ) → (a ≡ b) ⊎ (a ≡ b → ⊥)
 same a b = elim (bool (eqb a b)) [ inl e ↦ inl (eqb-true a b e) | inr e ↦ inr (eqb-false a b e) ]
+
+-- a contract of the form `r ≡ f x` determines its result: any two that meet it coincide
+pub determined {ℓ} : {A : Type ℓ} {v : A} (x y : A) → x ≡ v → y ≡ v → x ≡ y
+determined x y p q = p ∙ sym q

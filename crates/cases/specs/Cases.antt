@@ -150,9 +150,9 @@ cases =
 
 pub computed : each-gives cases ≡ true
 unfolding each-gives cases gives-it closedOf closedBy verdicts sames same text hexFrom listingOf linesOf stepLines verdictOf itemLines stateLines endOf answersOf digitsBy digitsOf fieldsOf lineOf each
-  fileOf scheduleTurn readSchedule stepBy stepsFrom stepsOf taken ended turnOf setupTurn readSetup row withKeys withGroup withTxn inSetup inSchedule judgeAt cutTurn cutOf walk ruleOf valuesFit pairsFit fits recordAt number
-  freshOf Fresh.startOf done decided stepOf firstClosing closesFirst firstDelivering firstCarried firstFrom firstTo todo settleFor settleDone readDone submitDone deliverDone carryDone stored committed closeDone
-  readRefusal submitRefusal deliverRefusal voteRefusal carryRefusal verdictRefusal closeRefusal refusal countsFit rowFits txnFits txnsFit placesFit usable headIn blockedIn nextIn submittedIn certifyIn coversKey coveredIn allYesIn verdictBy roomIn
-  inRow twice present meets conflictIn someIn allIn touches inside local keysFrom keysRefusal sizeRefusal countRefusal keyRefusal txnRefusal someGroup endRefusal judge noTables
-  member within adding anyBelow allBelow sumBelow firstBelow firstOf listFrom
+    fileOf scheduleTurn readSchedule stepBy stepsFrom stepsOf taken ended turnOf setupTurn readSetup row withKeys withGroup withTxn inSetup inSchedule judgeAt cutTurn cutOf walk ruleOf valuesFit pairsFit fits recordAt number
+    freshOf Fresh.startOf done decided stepOf firstClosing closesFirst firstDelivering firstCarried firstFrom firstTo todo settleFor settleDone readDone submitDone deliverDone carryDone stored committed closeDone
+    readRefusal submitRefusal deliverRefusal voteRefusal carryRefusal verdictRefusal closeRefusal refusal countsFit rowFits txnFits txnsFit placesFit usable headIn blockedIn nextIn submittedIn certifyIn coversKey coveredIn allYesIn verdictBy roomIn
+    inRow twice present meets conflictIn someIn allIn touches inside local keysFrom keysRefusal sizeRefusal countRefusal keyRefusal txnRefusal someGroup endRefusal judge noTables
+    member within adding anyBelow allBelow sumBelow firstBelow firstOf listFrom
 computed = refl

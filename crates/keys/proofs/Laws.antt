@@ -1,8 +1,8 @@
 -- The laws of sets of bits, over any width.
 -- Assumes nothing.
 use Prim.Native.Nat.{ℕ, zero, suc, _+_, _*_, _/_, _%_, _^_, _<_, _≤_}
-use mathlib.Core.Path.{_≡_, refl, sym, ap, _∙_}
-use mathlib.Core.Bool.{Bool, true, false}
+use mathlib.Core.Path.{_≡_, refl, sym, ap}
+use mathlib.Core.Bool.{true, false}
 use native.Mathlib.Omega.{arith}
 use native.Mathlib.Nat.{not-suc-le-zero, le-of-suc-le-suc, pow-zero, pow-succ', div-one, div-div-eq-div-mul, div-eq-of-lt, mod-eq-of-lt, one-mul, lt-of-lt-of-le, pow-le-pow-right}
 use mathlib.Core.Logic.{inl, inr}

@@ -3,7 +3,7 @@
 use Prim.Native.Nat.{ℕ, zero, suc, _+_, _-_, _≤_, _<_}
 use mathlib.Core.Path.{_≡_, refl, sym, subst, _∙_}
 use mathlib.Core.Bool.{Bool, true, false, cond}
-use mathlib.Core.Logic.{_⊎_, inl, inr}
+use mathlib.Core.Logic.{inl, inr}
 use mathlib.Core.List.{[], _∷_}
 use types.Run.{OneOf, miss}
 use denote.Enum.Declared.{tagOf}
@@ -13,11 +13,10 @@ use native.Mathlib.Nat.{not-suc-le-zero}
 use lib.Dec.{eqb, ltb}
 use borrow.Author.Tests.{ltb-true, eqb-true}
 use Rattle.bounded.specs.Bounded.{firstBelow, leastBelow}
-use Rattle.bounded.proofs.Truth.{bool, clash}
-use Rattle.bounded.proofs.Laws.{First, first-is}
+use Rattle.bounded.proofs.Laws.{first-is}
 use Rattle.tables.specs.Sites.{siteCount}
 use Rattle.rules.specs.Cells.{nobody, placeIn}
-use Rattle.machine.specs.Parts.{placeOf, withClosed}
+use Rattle.machine.specs.Parts.{withClosed}
 use Rattle.machine.specs.Rules.{verdict}
 use Rattle.machine.specs.Usable.{usable}
 use Rattle.machine.specs.Refusals.{deliverRefusal, carryRefusal, closeRefusal, refusal}

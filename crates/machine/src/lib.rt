@@ -76,7 +76,12 @@ impl State {
     fn is_usable(self) -> bool
         ensures { λ r. ⌜ r ≡ usable self ⌝ }
     {
-        if rules::counts_fit(self.tables.keys, self.tables.groups, &self.tables.sizes, self.tables.txns) {
+        if rules::counts_fit(
+            self.tables.keys,
+            self.tables.groups,
+            &self.tables.sizes,
+            self.tables.txns,
+        ) {
             if rules::txns_fit(
                 self.tables.keys,
                 &self.tables.reads,
@@ -110,7 +115,12 @@ impl State {
         if tables::sites_in(&self.tables.sizes, self.tables.groups) <= site {
             return 21;
         }
-        let m = tables::site_keys(&self.tables.sizes, &self.tables.masks, self.tables.groups, site);
+        let m = tables::site_keys(
+            &self.tables.sizes,
+            &self.tables.masks,
+            self.tables.groups,
+            site,
+        );
         if keys::has_key(m, tables::key_at(&self.tables.reads, at, read)) {
             if self.recorded[at * 8 + read] {
                 return 24;
@@ -199,7 +209,12 @@ impl State {
         requires { ⌜ s < siteCount (self .tables) ⌝ }
         ensures { λ r. ⌜ r ≡ nextAt self s ⌝ }
     {
-        let m = tables::site_keys(&self.tables.sizes, &self.tables.masks, self.tables.groups, s);
+        let m = tables::site_keys(
+            &self.tables.sizes,
+            &self.tables.masks,
+            self.tables.groups,
+            s,
+        );
         let places = self.places;
         rules::next_at(
             places,
@@ -248,12 +263,26 @@ impl State {
         requires { ⌜ (t < self .tables .txns) × (s < siteCount (self .tables)) ⌝ }
         ensures { λ r. ⌜ r ≡ voteOf self t s ⌝ }
     {
-        let m = tables::site_keys(&self.tables.sizes, &self.tables.masks, self.tables.groups, s);
+        let m = tables::site_keys(
+            &self.tables.sizes,
+            &self.tables.masks,
+            self.tables.groups,
+            s,
+        );
         let n = tables::count_at(&self.tables.nreads, t);
         if tables::some_in(&self.tables.reads, t, n, m) {
             let versions = self.versions;
             let read = self.readversions;
-            return rules::certify(versions, read, &self.recorded, &self.tables.reads, n, t, s, m);
+            return rules::certify(
+                versions,
+                read,
+                &self.recorded,
+                &self.tables.reads,
+                n,
+                t,
+                s,
+                m,
+            );
         }
         0
     }
@@ -291,7 +320,12 @@ impl State {
         requires { ⌜ t < self .tables .txns ⌝ }
         ensures { λ r. ⌜ r ≡ concerns (self .tables) t s ⌝ }
     {
-        let m = tables::site_keys(&self.tables.sizes, &self.tables.masks, self.tables.groups, s);
+        let m = tables::site_keys(
+            &self.tables.sizes,
+            &self.tables.masks,
+            self.tables.groups,
+            s,
+        );
         tables::touch(
             &self.tables.reads,
             &self.tables.nreads,
@@ -407,8 +441,20 @@ impl State {
         }
         if v == 1 {
             let places = self.places;
-            if rules::is_at_head(places, &self.delivered, &self.closed, self.tables.txns, t, s) {
-                let m = tables::site_keys(&self.tables.sizes, &self.tables.masks, self.tables.groups, s);
+            if rules::is_at_head(
+                places,
+                &self.delivered,
+                &self.closed,
+                self.tables.txns,
+                t,
+                s,
+            ) {
+                let m = tables::site_keys(
+                    &self.tables.sizes,
+                    &self.tables.masks,
+                    self.tables.groups,
+                    s,
+                );
                 let w = tables::count_at(&self.tables.nwrites, t);
                 let versions = self.versions;
                 if rules::has_room(versions, &self.tables.writes, w, t, s, m) {
@@ -452,7 +498,12 @@ impl State {
         requires { ⌜ roomAt self t s ≡ true ⌝ }
         ensures { λ r. ⌜ r ≡ committed self t s ⌝ }
     {
-        let m = tables::site_keys(&self.tables.sizes, &self.tables.masks, self.tables.groups, s);
+        let m = tables::site_keys(
+            &self.tables.sizes,
+            &self.tables.masks,
+            self.tables.groups,
+            s,
+        );
         let n = tables::count_at(&self.tables.nwrites, t);
         let mut next = self;
         let mut i: usize = 0;

@@ -353,7 +353,14 @@ pub fn verdict<'a>(
 }
 
 // Whether a commit of t at s, whose keys are the set m, has a version left for each of its w written keys there.
-pub fn has_room(versions: [Version; 1024], writes: &[u8; 1024], w: usize, t: usize, s: usize, m: u64) -> bool
+pub fn has_room(
+    versions: [Version; 1024],
+    writes: &[u8; 1024],
+    w: usize,
+    t: usize,
+    s: usize,
+    m: u64,
+) -> bool
     requires { ⌜ (w ≤ 8) × ((t < 128) × (s < 16)) ⌝ }
     ensures { λ r. ⌜ r ≡ roomIn versions (now (writes .entry)) w t s m ⌝ }
 {

@@ -190,7 +190,14 @@ fn in_row(row: &[u8; 1024], t: usize, n: usize, k: u8) -> bool
 }
 
 // Whether one of the first n keys of row t is among the first m of the other's row u.
-fn meet<'a>(row: &'a [u8; 1024], t: usize, n: usize, other: &'a [u8; 1024], u: usize, m: usize) -> bool
+fn meet<'a>(
+    row: &'a [u8; 1024],
+    t: usize,
+    n: usize,
+    other: &'a [u8; 1024],
+    u: usize,
+    m: usize,
+) -> bool
     requires { ⌜ ((t < 128) × (n ≤ 8)) × ((u < 128) × (m ≤ 8)) ⌝ }
     ensures { λ r. ⌜ r ≡ meets (now (row .entry)) t n (now (other .entry)) u m ⌝ }
 {

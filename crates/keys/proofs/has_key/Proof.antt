@@ -1,12 +1,10 @@
+-- `keys::has_key` meets its contract. No key at 64 or above is in a set of 64 bits.
 use mathlib.Core.Path.{sym}
 use Rattle.keys.specs.Keys.{member}
 use Rattle.keys.proofs.Laws.{high}
-use native.Mathlib.Omega.{arith}
 use borrow.Author.Needs.{needs}
 use Rattle.keys.proofs.has_key.Statement.{statement}
 use Rattle.keys.proofs.has_key.Tie as tie
-use Rattle.keys.proofs.has_key.Reads as reads
-use Rattle.keys.proofs.has_key.Lts as lts
 
 shr-result : tie.Need-shr-result
 shr-result c = search needs

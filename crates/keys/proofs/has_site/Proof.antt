@@ -1,12 +1,10 @@
+-- `keys::has_site` meets its contract. No site at 16 or above is in a set of 16 bits.
 use mathlib.Core.Path.{sym}
 use Rattle.keys.specs.Keys.{member}
 use Rattle.keys.proofs.Laws.{high}
-use native.Mathlib.Omega.{arith}
 use borrow.Author.Needs.{needs}
 use Rattle.keys.proofs.has_site.Statement.{statement}
 use Rattle.keys.proofs.has_site.Tie as tie
-use Rattle.keys.proofs.has_site.Reads as reads
-use Rattle.keys.proofs.has_site.Lts as lts
 
 cast-result : tie.Need-cast-result
 cast-result c = search needs

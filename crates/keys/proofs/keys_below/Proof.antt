@@ -1,12 +1,10 @@
+-- `keys::keys_below` meets its contract. All keys of a set of 64 bits are below 64.
 use mathlib.Core.Path.{sym}
 use Rattle.keys.specs.Keys.{within}
 use Rattle.keys.proofs.Laws.{all-within}
-use native.Mathlib.Omega.{arith}
 use borrow.Author.Needs.{needs}
 use Rattle.keys.proofs.keys_below.Statement.{statement}
 use Rattle.keys.proofs.keys_below.Tie as tie
-use Rattle.keys.proofs.keys_below.Reads as reads
-use Rattle.keys.proofs.keys_below.Lts as lts
 
 shr-result : tie.Need-shr-result
 shr-result c = search needs

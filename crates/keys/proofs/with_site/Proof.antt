@@ -1,11 +1,9 @@
+-- `keys::with_site` meets its contract. A bit that is not set can be added within the width.
 use Rattle.keys.specs.Keys.{adding}
 use Rattle.keys.proofs.Laws.{one-shl, adding-fits}
-use native.Mathlib.Omega.{arith}
 use borrow.Author.Needs.{needs}
 use Rattle.keys.proofs.with_site.Statement.{statement}
 use Rattle.keys.proofs.with_site.Tie as tie
-use Rattle.keys.proofs.with_site.Reads as reads
-use Rattle.keys.proofs.with_site.Lts as lts
 
 cast-result : tie.Need-cast-result
 cast-result c = search needs

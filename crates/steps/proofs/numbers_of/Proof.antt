@@ -1,9 +1,7 @@
-use native.Mathlib.Omega.{arith}
+-- `steps::numbers_of` meets its contract. Each arm is given which answer it has.
 use borrow.Author.Needs.{needs}
 use Rattle.steps.proofs.numbers_of.Statement.{statement}
 use Rattle.steps.proofs.numbers_of.Tie as tie
-use Rattle.steps.proofs.numbers_of.Reads as reads
-use Rattle.steps.proofs.numbers_of.Lts as lts
 
 enum-known-a : tie.Need-enum-known-a
 enum-known-a c = search needs

@@ -1,19 +1,11 @@
+-- `State::after_step` meets its contract. What SETTLE takes next is accepted, so each step does what it does.
 use Rattle.machine.proofs.Settle.{taken, next-accepted}
-use Rattle.machine.proofs.Settle.{Accepted, todo-accepted}
-use Rattle.machine.specs.declared.Todo.{Todo}
-use Rattle.machine.specs.Steps.{done, decided}
+use Rattle.machine.specs.Steps.{done}
 use Rattle.machine.specs.Refusals.{refusal}
-use borrow.Author.Tests.{eq-eqb}
-use mathlib.Core.Path.{_≡_, refl, sym, ap, subst, _∙_}
-use native.Mathlib.Omega.{arith}
+use mathlib.Core.Path.{ap, _∙_}
 use borrow.Author.Needs.{needs}
 use Rattle.machine.proofs.State.after_step.Statement.{statement}
 use Rattle.machine.proofs.State.after_step.Tie as tie
-use Rattle.machine.proofs.State.after_step.Reads as reads
-use Rattle.machine.proofs.State.after_step.Lts as lts
-use Rattle.machine.proofs.State.take_carry.Reads as take-carry-reads
-use Rattle.machine.proofs.State.take_close.Reads as take-close-reads
-use Rattle.machine.proofs.State.take_deliver.Reads as take-deliver-reads
 
 enum-known-x : tie.Need-enum-known-x
 enum-known-x c = search needs

@@ -1,3 +1,4 @@
+-- `State::closes_first` meets its contract. What is found after t turns is the first of those below t that can be closed, with its place.
 use Rattle.machine.specs.Settle.{closesFirst}
 use Rattle.machine.specs.Refusals.{closeRefusal}
 use Rattle.machine.proofs.Laws.{usable-has}
@@ -5,19 +6,14 @@ use Rattle.rules.proofs.Queue.{place-found, place-nobody}
 use Rattle.rules.specs.Cells.{nobody, placeIn}
 use Rattle.bounded.proofs.Laws.{first-up}
 use Rattle.bounded.specs.Bounded.{firstBelow}
-use lib.ListN.{length, length-map}
-use lib.Dec.{eqb, ltb}
-use borrow.Author.Tests.{eq-eqb, ne-eqb, le-leb, lt-leb, le-ltb, lt-ltb}
-use Prim.Native.Nat.{_≤_, _<_, _+_, _-_}
-use mathlib.Core.Path.{_≡_, refl, sym, ap, _∙_}
+use lib.ListN.{length-map}
+use lib.Dec.{eqb}
+use Prim.Native.Nat.{_≤_, _-_}
+use mathlib.Core.Path.{_≡_, refl, sym}
 use native.Mathlib.Omega.{arith}
 use borrow.Author.Needs.{needs}
 use Rattle.machine.proofs.State.closes_first.Statement.{statement}
 use Rattle.machine.proofs.State.closes_first.Tie as tie
-use Rattle.machine.proofs.State.closes_first.Reads as reads
-use Rattle.machine.proofs.State.closes_first.Lts as lts
-use Rattle.machine.proofs.State.close_refusal.Reads as close-refusal-reads
-use Rattle.rules.proofs.sooner.Reads as sooner-reads
 
 abbrev Inv-loop : tie.InvT-loop
 Inv-loop s self found₀ t₀ found t = (t ≤ self .tables .txns) × (found .t ≡ firstBelow t (placeIn (self .places)) (λ z. eqb (closeRefusal self z s) 0) nobody) × (found .place ≡ placeIn (self .places) (found .t))

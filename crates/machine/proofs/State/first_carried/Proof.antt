@@ -1,22 +1,18 @@
+-- `State::first_carried` meets its contract. What is found after t turns is the first of those below t of which a vote can be carried, with its place.
 use Rattle.machine.specs.Settle.{nowhere, firstFrom, firstCarried}
 use Rattle.machine.proofs.Laws.{usable-has}
 use Rattle.rules.proofs.Queue.{place-found, place-nobody}
 use Rattle.rules.specs.Cells.{nobody, placeIn}
 use Rattle.bounded.proofs.Laws.{first-up}
 use Rattle.bounded.specs.Bounded.{firstBelow}
-use lib.ListN.{length, length-map}
-use lib.Dec.{eqb, ltb}
-use borrow.Author.Tests.{eq-eqb, ne-eqb, le-leb, lt-leb, le-ltb, lt-ltb}
-use Prim.Native.Nat.{_≤_, _<_, _+_, _-_}
-use mathlib.Core.Path.{_≡_, refl, sym, ap, _∙_}
+use lib.ListN.{length-map}
+use lib.Dec.{ltb}
+use Prim.Native.Nat.{_≤_, _-_}
+use mathlib.Core.Path.{_≡_, refl, sym}
 use native.Mathlib.Omega.{arith}
 use borrow.Author.Needs.{needs}
 use Rattle.machine.proofs.State.first_carried.Statement.{statement}
 use Rattle.machine.proofs.State.first_carried.Tie as tie
-use Rattle.machine.proofs.State.first_carried.Reads as reads
-use Rattle.machine.proofs.State.first_carried.Lts as lts
-use Rattle.machine.proofs.State.first_from.Reads as first-from-reads
-use Rattle.rules.proofs.sooner.Reads as sooner-reads
 
 abbrev Inv-loop : tie.InvT-loop
 Inv-loop self found₀ t₀ found t = (t ≤ self .tables .txns) × (found .t ≡ firstBelow t (placeIn (self .places)) (λ z. ltb (firstFrom self z) nowhere) nobody) × (found .place ≡ placeIn (self .places) (found .t))

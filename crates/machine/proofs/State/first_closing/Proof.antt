@@ -1,21 +1,18 @@
+-- `State::first_closing` meets its contract. No site below s has one to close, until one has.
 use Rattle.machine.specs.Settle.{closesFirst, firstClosing}
 use Rattle.machine.proofs.Laws.{usable-has}
 use Rattle.machine.specs.Settle.{nowhere}
 use Rattle.rules.specs.Cells.{nobody}
 use Rattle.bounded.proofs.Laws.{least-up, least-stop}
 use Rattle.bounded.specs.Bounded.{firstBelow, leastBelow}
-use lib.Dec.{eqb, ltb}
-use borrow.Author.Tests.{eq-eqb, ne-eqb, le-leb, lt-leb, le-ltb, lt-ltb}
-use Prim.Native.Nat.{_≤_, _<_, _+_, _-_}
-use mathlib.Core.Path.{_≡_, refl, sym, ap, _∙_}
+use lib.Dec.{ltb}
+use borrow.Author.Tests.{le-ltb, lt-ltb}
+use Prim.Native.Nat.{_≤_, _-_}
+use mathlib.Core.Path.{_≡_, refl, sym}
 use native.Mathlib.Omega.{arith}
 use borrow.Author.Needs.{needs}
 use Rattle.machine.proofs.State.first_closing.Statement.{statement}
 use Rattle.machine.proofs.State.first_closing.Tie as tie
-use Rattle.machine.proofs.State.first_closing.Reads as reads
-use Rattle.machine.proofs.State.first_closing.Lts as lts
-use Rattle.machine.proofs.State.closes_first.Reads as closes-first-reads
-use Rattle.tables.proofs.sites_in.Reads as sites-in-reads
 
 abbrev Inv-loop : tie.InvT-loop
 Inv-loop self n s₀ s = (s ≤ n) × (leastBelow s (λ z. ltb (closesFirst self z) nobody) nowhere ≡ nowhere)

@@ -1,22 +1,18 @@
+-- `State::first_delivering` meets its contract. No site below s has one to deliver, until one has.
 use Rattle.machine.specs.Settle.{firstDelivering}
 use Rattle.machine.specs.Refusals.{deliverRefusal}
 use Rattle.machine.proofs.Laws.{usable-has}
 use Rattle.machine.specs.Settle.{nowhere}
-use Rattle.rules.specs.Cells.{nobody}
 use Rattle.bounded.proofs.Laws.{least-up, least-stop}
 use Rattle.bounded.specs.Bounded.{firstBelow, leastBelow}
-use lib.Dec.{eqb, ltb}
-use borrow.Author.Tests.{eq-eqb, ne-eqb, le-leb, lt-leb, le-ltb, lt-ltb}
-use Prim.Native.Nat.{_≤_, _<_, _+_, _-_}
-use mathlib.Core.Path.{_≡_, refl, sym, ap, _∙_}
+use lib.Dec.{eqb}
+use borrow.Author.Tests.{eq-eqb, ne-eqb}
+use Prim.Native.Nat.{_≤_, _-_}
+use mathlib.Core.Path.{_≡_, refl, sym}
 use native.Mathlib.Omega.{arith}
 use borrow.Author.Needs.{needs}
 use Rattle.machine.proofs.State.first_delivering.Statement.{statement}
 use Rattle.machine.proofs.State.first_delivering.Tie as tie
-use Rattle.machine.proofs.State.first_delivering.Reads as reads
-use Rattle.machine.proofs.State.first_delivering.Lts as lts
-use Rattle.machine.proofs.State.deliver_refusal.Reads as deliver-refusal-reads
-use Rattle.tables.proofs.sites_in.Reads as sites-in-reads
 
 abbrev Inv-loop : tie.InvT-loop
 Inv-loop self n s₀ s = (s ≤ n) × (leastBelow s (λ z. eqb (deliverRefusal self z) 0) nowhere ≡ nowhere)

@@ -1,21 +1,17 @@
+-- `State::first_from` meets its contract. No site below f has a vote to carry, until one has.
 use Rattle.machine.specs.Settle.{firstTo, firstFrom}
 use Rattle.machine.proofs.Laws.{usable-has}
 use Rattle.machine.specs.Settle.{nowhere}
-use Rattle.rules.specs.Cells.{nobody}
 use Rattle.bounded.proofs.Laws.{least-up, least-stop}
 use Rattle.bounded.specs.Bounded.{firstBelow, leastBelow}
-use lib.Dec.{eqb, ltb}
-use borrow.Author.Tests.{eq-eqb, ne-eqb, le-leb, lt-leb, le-ltb, lt-ltb}
-use Prim.Native.Nat.{_≤_, _<_, _+_, _-_}
-use mathlib.Core.Path.{_≡_, refl, sym, ap, _∙_}
+use lib.Dec.{ltb}
+use borrow.Author.Tests.{le-ltb, lt-ltb}
+use Prim.Native.Nat.{_≤_, _-_}
+use mathlib.Core.Path.{_≡_, refl, sym}
 use native.Mathlib.Omega.{arith}
 use borrow.Author.Needs.{needs}
 use Rattle.machine.proofs.State.first_from.Statement.{statement}
 use Rattle.machine.proofs.State.first_from.Tie as tie
-use Rattle.machine.proofs.State.first_from.Reads as reads
-use Rattle.machine.proofs.State.first_from.Lts as lts
-use Rattle.machine.proofs.State.first_to.Reads as first-to-reads
-use Rattle.tables.proofs.sites_in.Reads as sites-in-reads
 
 abbrev Inv-loop : tie.InvT-loop
 Inv-loop t self n f₀ f = (f ≤ n) × (leastBelow f (λ z. ltb (firstTo self t z) nowhere) nowhere ≡ nowhere)

@@ -1,22 +1,18 @@
+-- `State::first_to` meets its contract. The vote can be carried to no site below s, until it can.
 use Rattle.machine.specs.Settle.{firstTo}
 use Rattle.machine.specs.Refusals.{carryRefusal}
 use Rattle.machine.proofs.Laws.{usable-has}
 use Rattle.machine.specs.Settle.{nowhere}
-use Rattle.rules.specs.Cells.{nobody}
 use Rattle.bounded.proofs.Laws.{least-up, least-stop}
 use Rattle.bounded.specs.Bounded.{firstBelow, leastBelow}
-use lib.Dec.{eqb, ltb}
-use borrow.Author.Tests.{eq-eqb, ne-eqb, le-leb, lt-leb, le-ltb, lt-ltb}
-use Prim.Native.Nat.{_≤_, _<_, _+_, _-_}
-use mathlib.Core.Path.{_≡_, refl, sym, ap, _∙_}
+use lib.Dec.{eqb}
+use borrow.Author.Tests.{eq-eqb, ne-eqb}
+use Prim.Native.Nat.{_≤_, _-_}
+use mathlib.Core.Path.{_≡_, refl, sym}
 use native.Mathlib.Omega.{arith}
 use borrow.Author.Needs.{needs}
 use Rattle.machine.proofs.State.first_to.Statement.{statement}
 use Rattle.machine.proofs.State.first_to.Tie as tie
-use Rattle.machine.proofs.State.first_to.Reads as reads
-use Rattle.machine.proofs.State.first_to.Lts as lts
-use Rattle.machine.proofs.State.carry_refusal.Reads as carry-refusal-reads
-use Rattle.tables.proofs.sites_in.Reads as sites-in-reads
 
 abbrev Inv-loop : tie.InvT-loop
 Inv-loop t f self n s₀ s = (s ≤ n) × (leastBelow s (λ z. eqb (carryRefusal self t f z) 0) nowhere ≡ nowhere)

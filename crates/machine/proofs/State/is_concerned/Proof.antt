@@ -1,13 +1,8 @@
+-- `State::is_concerned` meets its contract. R(t) has s where a key of t is among those of s.
 use Rattle.machine.proofs.Laws.{usable-has}
-use mathlib.Core.Path.{_≡_, refl, sym, ap, _∙_}
 use native.Mathlib.Omega.{arith}
-use borrow.Author.Needs.{needs}
 use Rattle.machine.proofs.State.is_concerned.Statement.{statement}
 use Rattle.machine.proofs.State.is_concerned.Tie as tie
-use Rattle.machine.proofs.State.is_concerned.Reads as reads
-use Rattle.machine.proofs.State.is_concerned.Lts as lts
-use Rattle.tables.proofs.site_keys.Reads as site-keys-reads
-use Rattle.tables.proofs.touch.Reads as touch-reads
 
 site-keys-requires : tie.Need-site-keys-requires
 site-keys-requires c κs = usable-has _ (c .before .before .before .pre .0) .groups

@@ -1,17 +1,9 @@
+-- `State::next_step` meets its contract. Each search is answered, and the first that finds one is taken.
 use Rattle.machine.specs.Settle.{todo}
 use borrow.Author.Tests.{le-ltb, lt-ltb}
-use native.Mathlib.Omega.{arith}
 use borrow.Author.Needs.{needs}
 use Rattle.machine.proofs.State.next_step.Statement.{statement}
 use Rattle.machine.proofs.State.next_step.Tie as tie
-use Rattle.machine.proofs.State.next_step.Reads as reads
-use Rattle.machine.proofs.State.next_step.Lts as lts
-use Rattle.machine.proofs.State.closes_first.Reads as closes-first-reads
-use Rattle.machine.proofs.State.first_carried.Reads as first-carried-reads
-use Rattle.machine.proofs.State.first_closing.Reads as first-closing-reads
-use Rattle.machine.proofs.State.first_delivering.Reads as first-delivering-reads
-use Rattle.machine.proofs.State.first_from.Reads as first-from-reads
-use Rattle.machine.proofs.State.first_to.Reads as first-to-reads
 
 first-closing-requires : tie.Need-first-closing-requires
 first-closing-requires c κs = search needs

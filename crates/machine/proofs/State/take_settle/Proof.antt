@@ -1,19 +1,16 @@
+-- `State::take_settle` meets its contract. The steps left from here are the steps left from the start, and the state stays usable.
 use Rattle.machine.proofs.Settle.{after-usable, settle-stops, settle-goes, settle-ends, something}
 use Rattle.machine.specs.Steps.{done, decided}
 use Rattle.machine.specs.Refusals.{refusal}
 use Rattle.machine.specs.Settle.{most, settleFor, settleDone}
 use Rattle.machine.specs.Usable.{usable}
-use Prim.Native.Nat.{suc, _≤_, _<_, _+_, _-_}
+use Prim.Native.Nat.{_≤_, _+_, _-_}
 use mathlib.Core.Bool.{true}
-use mathlib.Core.Path.{_≡_, refl, sym, ap, subst, _∙_}
+use mathlib.Core.Path.{_≡_, refl, sym, _∙_}
 use native.Mathlib.Omega.{arith}
 use borrow.Author.Needs.{needs}
 use Rattle.machine.proofs.State.take_settle.Statement.{statement}
 use Rattle.machine.proofs.State.take_settle.Tie as tie
-use Rattle.machine.proofs.State.take_settle.Reads as reads
-use Rattle.machine.proofs.State.take_settle.Lts as lts
-use Rattle.machine.proofs.State.after_step.Reads as after-step-reads
-use Rattle.machine.proofs.State.next_step.Reads as next-step-reads
 
 abbrev Inv-loop : tie.InvT-loop
 Inv-loop st₀ n₀ st n = (n ≤ most) × (usable st ≡ true) × (settleFor (most - n) n st ≡ settleFor most 0 st₀)
@@ -45,7 +42,7 @@ loop-less c = omega (arith, c .before .before .before .loop-test .taken)
 
 loop-again : tie.Need-loop-again Inv-loop μ-loop
 loop-again c = let m : most - (c .before .before .before .before .loop .n + 1) ≡ most - c .before .before .before .before .loop .n - 1 = omega arith in
-    (omega (arith, c .before .before .before .loop-test .taken), rw (c .after-step .ensures) (after-usable _ _ (c .before .before .before .before .loop .inv .1)), rw (m, c .after-step .ensures) (sym (settle-goes _ _ _ _ (omega (arith, c .before .before .before .loop-test .taken)) (sym (c .before .before .next-step .ensures)) (something _ (c .before .match .keys2))) ∙ c .before .before .before .before .loop .inv .2))
+    (omega (arith, c .before .before .before .loop-test .taken), rw (c .after-step .ensures) (after-usable (c .before .before .before .before .loop .st) (c .before .before .next-step .result) (c .before .before .before .before .loop .inv .1)), rw (m, c .after-step .ensures) (sym (settle-goes _ _ _ _ (omega (arith, c .before .before .before .loop-test .taken)) (sym (c .before .before .next-step .ensures)) (something _ (c .before .match .keys2))) ∙ c .before .before .before .before .loop .inv .2))
 
 returns-2 : tie.Need-returns-2 Inv-loop μ-loop
 unfolding decided refusal done settleDone
