@@ -17,8 +17,9 @@ fn say(a: Answer) {
 
 fn go(st: State, x: Step) -> State {
     let r = st.step(x);
+    let answer = r.answer;
     let next = r.next;
-    say(r.answer);
+    say(answer);
     next
 }
 
