@@ -1,7 +1,7 @@
 -- The laws of tests, sums and searches below a bound: one turn of each, what they say of each number, and where a search stands.
 -- Assumes nothing.
 use Prim.Native.Nat.{ℕ, zero, suc, _+_, _-_, _≤_, _<_}
-use mathlib.Core.Path.{_≡_, refl, ap, _∙_}
+use mathlib.Core.Path.{_≡_, refl, sym, ap, _∙_}
 use mathlib.Core.Bool.{Bool, true, false, _&&_, _||_}
 use mathlib.Core.Logic.{_⊎_, inl, inr}
 use native.Mathlib.Omega.{arith}
@@ -41,30 +41,35 @@ pub of-up : (i : ℕ) (f : ℕ → ℕ) → firstOf (i + 1) f ≡ orElse (firstO
 unfolding firstOf
 of-up i f = rw add-one
 
+-- what is not 0 stands before anything else, and where neither is there both are 0
+pub else-keep : (a b : ℕ) → (a ≡ 0 → ⊥) → orElse a b ≡ a
+else-keep zero b h = absurd (h refl)
+else-keep (suc a) b h = refl
+
+pub else-none : (a b : ℕ) → orElse a b ≡ 0 → (a ≡ 0) × (b ≡ 0)
+else-none zero b h = (refl, h)
+else-none (suc a) b h = absurd (omega arith)
+
 -- a search for the first that is not 0 stops there
-pub of-stop : (n g : ℕ) (f : ℕ → ℕ) → g < n → firstOf g f ≡ 0 → (f g ≡ 0 → ⊥) → firstOf n f ≡ f g
+of-stop : (n g : ℕ) (f : ℕ → ℕ) → g < n → firstOf g f ≡ 0 → (f g ≡ 0 → ⊥) → firstOf n f ≡ f g
 unfolding firstOf
 of-stop zero g f l z s = absurd (not-suc-le-zero l)
 of-stop (suc n) g f l z s = go (same g n) (of-stop n g f)
   where
-    keep : (a b : ℕ) → (a ≡ 0 → ⊥) → orElse a b ≡ a
-    keep zero b h = absurd (h refl)
-    keep (suc a) b h = refl
-
     go : (g ≡ n) ⊎ (g ≡ n → ⊥) → (g < n → firstOf g f ≡ 0 → (f g ≡ 0 → ⊥) → firstOf n f ≡ f g) → orElse (firstOf n f) (f n) ≡ f g
     go (inl e) r = rw (← e, z)
-    go (inr d) r = let e : firstOf n f ≡ f g = r (omega arith) z s in rw e (keep (f g) (f n) s)
+    go (inr d) r = let e : firstOf n f ≡ f g = r (omega arith) z s in rw e (else-keep (f g) (f n) s)
+
+-- so a loop that looks for it returns the one that it finds
+pub stops : (n g x : ℕ) (f : ℕ → ℕ) → g < n → firstOf g f ≡ 0 → x ≡ f g → (x ≡ 0 → ⊥) → x ≡ firstOf n f
+stops n g x f l z e s = e ∙ sym (of-stop n g f l z (λ q. s (e ∙ q)))
 
 -- where it finds none, all are 0
 pub of-none : (n : ℕ) (f : ℕ → ℕ) → firstOf n f ≡ 0 → (g : ℕ) → g < n → f g ≡ 0
 unfolding firstOf
 of-none zero f z g l = absurd (not-suc-le-zero l)
-of-none (suc n) f z g l = let (a, b) = both (firstOf n f) (f n) z in go b (of-none n f a g) (same g n)
+of-none (suc n) f z g l = let (a, b) = else-none (firstOf n f) (f n) z in go b (of-none n f a g) (same g n)
   where
-    both : (x y : ℕ) → orElse x y ≡ 0 → (x ≡ 0) × (y ≡ 0)
-    both zero y h = (refl, h)
-    both (suc x) y h = absurd (omega arith)
-
     go : f n ≡ 0 → (g < n → f g ≡ 0) → (g ≡ n) ⊎ (g ≡ n → ⊥) → f g ≡ 0
     go b r (inl e) = rw e b
     go b r (inr d) = r (omega arith)

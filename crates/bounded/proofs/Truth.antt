@@ -1,9 +1,10 @@
 -- What a test's value says of its parts.
 -- Assumes nothing.
-use Prim.Native.Nat.{ℕ}
+use Prim.Native.Nat.{ℕ, _<_}
 use mathlib.Core.Path.{_≡_, refl, sym, _∙_}
-use mathlib.Core.Bool.{Bool, true, false, _&&_, _||_, true≢false}
+use mathlib.Core.Bool.{Bool, true, false, _&&_, _||_, true≢false, cond}
 use mathlib.Core.Logic.{_⊎_, inl, inr}
+use native.Mathlib.Omega.{arith}
 use lib.Dec.{eqb}
 use borrow.Author.Tests.{eqb-true, eqb-false}
 
@@ -40,6 +41,11 @@ clash p q = absurd (true≢false (sym p ∙ q))
 
 pub same : (a b : ℕ) → (a ≡ b) ⊎ (a ≡ b → ⊥)
 same a b = elim (bool (eqb a b)) [ inl e ↦ inl (eqb-true a b e) | inr e ↦ inr (eqb-false a b e) ]
+
+-- a test that refuses with n did not: it is false, and what comes after it refuses nothing
+pub passed : (n : ℕ) → 0 < n → (b : Bool) (k : ℕ) → cond b n k ≡ 0 → (b ≡ false) × (k ≡ 0)
+passed n l true k h = absurd (omega arith)
+passed n l false k h = (refl, h)
 
 -- a contract of the form `r ≡ f x` determines its result: any two that meet it coincide
 pub determined {ℓ} : {A : Type ℓ} {v : A} (x y : A) → x ≡ v → y ≡ v → x ≡ y

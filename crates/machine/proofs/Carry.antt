@@ -1,13 +1,13 @@
 -- What an accepted DELIVER or CARRY says of its sites and its transaction.
 -- Assumes nothing.
 use Prim.Native.Nat.{ℕ, _≤_, _<_}
-use mathlib.Core.Path.{_≡_, refl}
-use mathlib.Core.Bool.{Bool, true, false, _||_, not, cond}
+use mathlib.Core.Path.{_≡_}
+use mathlib.Core.Bool.{true, false, _||_, not}
 use mathlib.Core.Logic.{inl, inr}
 use native.Mathlib.Omega.{arith}
 use lib.Dec.{leb, eqb}
 use borrow.Author.Tests.{leb-false, eqb-false}
-use Rattle.bounded.proofs.Truth.{or-false}
+use Rattle.bounded.proofs.Truth.{or-false, passed}
 use Rattle.bounded.proofs.Laws.{first-is}
 use Rattle.keys.specs.Keys.{member}
 use Rattle.tables.specs.Sites.{siteCount}
@@ -20,11 +20,6 @@ use Rattle.machine.specs.Usable.{usable}
 use Rattle.machine.specs.Refusals.{deliverRefusal, voteRefusal, carryRefusal}
 use Rattle.machine.proofs.Laws.{usable-has}
 use Rattle.machine.specs.declared.State.{State}
-
--- a test that would refuse by n did not
-pub passed : (n : ℕ) → 0 < n → (b : Bool) (k : ℕ) → cond b n k ≡ 0 → (b ≡ false) × (k ≡ 0)
-passed n l true k h = absurd (omega arith)
-passed n l false k h = (refl, h)
 
 -- the next to deliver, where there is one, is a transaction
 pub next-low : (st : State) (s : ℕ) → st .tables .txns ≤ 128 → (nextAt st s ≡ 128 → ⊥) → nextAt st s < st .tables .txns

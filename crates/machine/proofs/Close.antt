@@ -9,6 +9,7 @@ use native.Mathlib.Numerals.{add-one}
 use lib.Dec.{leb, ltb, eqb}
 use lib.ListN.{getD, set}
 use borrow.Author.Tests.{leb-false, ltb-true, eq-eqb, not-false}
+use Rattle.bounded.proofs.Truth.{passed}
 use Rattle.bounded.proofs.Laws.{all-get}
 use Rattle.tables.specs.Lists.{writeCount, writeKey}
 use Rattle.tables.specs.Sites.{siteCount, holds}
@@ -19,7 +20,6 @@ use Rattle.machine.specs.Parts.{versionAt, deliveredAt, closedAt}
 use Rattle.machine.specs.Rules.{atHead, verdict, roomAt}
 use Rattle.machine.specs.Refusals.{verdictRefusal, closeRefusal}
 use Rattle.machine.specs.Effects.{stored}
-use Rattle.machine.proofs.Carry.{passed}
 use Rattle.machine.specs.declared.State.{State}
 
 -- one write more

@@ -1,8 +1,8 @@
 -- What holds of counts that fit, of a step that is not refused, of tables that are judged good, and of a store that is being filled.
 -- Assumes nothing.
-use Prim.Native.Nat.{ℕ, zero, suc, _+_, _≤_, _<_}
-use mathlib.Core.Path.{_≡_, refl, sym, _∙_}
-use mathlib.Core.Bool.{Bool, true, false, cond}
+use Prim.Native.Nat.{ℕ, _+_, _≤_, _<_}
+use mathlib.Core.Path.{_≡_, sym, _∙_}
+use mathlib.Core.Bool.{true, cond}
 use mathlib.Core.Logic.{inl, inr}
 use mathlib.Core.List.{List}
 use native.Mathlib.Omega.{arith}
@@ -11,9 +11,9 @@ use lib.Dec.{leb, eqb}
 use lib.ListN.{length, getD, set, length-set}
 use lib.Seq.{getD-set-same, getD-set-other, ext-getD}
 use borrow.Author.Tests.{leb-true, leb-false}
-use Rattle.bounded.specs.Bounded.{orElse, firstOf, listFrom}
-use Rattle.bounded.proofs.Truth.{and-true, same}
-use Rattle.bounded.proofs.Laws.{list-length, list-at}
+use Rattle.bounded.specs.Bounded.{firstOf, listFrom}
+use Rattle.bounded.proofs.Truth.{and-true, same, passed}
+use Rattle.bounded.proofs.Laws.{list-length, list-at, else-none}
 use Rattle.tables.specs.Lists.{readCount, readKey}
 use Rattle.tables.specs.Sites.{sitesIn, siteCount}
 use Rattle.tables.specs.Judge.{judge, keysRefusal, groupRefusal}
@@ -33,10 +33,6 @@ counts-txns keys groups sizes txns h =
 
 -- ---- a step that is not refused
 
-passed : (b : Bool) (n m : ℕ) → cond b (suc n) m ≡ 0 → (b ≡ false) × (m ≡ 0)
-passed true n m h = absurd (omega arith)
-passed false n m h = (refl, h)
-
 -- t's i-th read at s
 pub record Readable (st : State) (t i s : ℕ) : Type 0 where
   pub txn : t < 128
@@ -47,9 +43,9 @@ pub record Readable (st : State) (t i s : ℕ) : Type 0 where
 pub read-has : (st : State) (t i s : ℕ) → usable st ≡ true → readRefusal st t i s ≡ 0 → Readable st t i s
 unfolding readRefusal
 read-has st t i s ok h =
-    let (a, h1) = passed (leb (st .tables .txns) t) 19 _ h in
-    let (b, h2) = passed (leb (readCount (st .tables) t) i) 21 _ h1 in
-    let (d, h3) = passed (leb (siteCount (st .tables)) s) 20 _ h2 in
+    let (a, h1) = passed 20 (omega arith) (leb (st .tables .txns) t) _ h in
+    let (b, h2) = passed 22 (omega arith) (leb (readCount (st .tables) t) i) _ h1 in
+    let (d, h3) = passed 21 (omega arith) (leb (siteCount (st .tables)) s) _ h2 in
     made (leb-false _ _ a) (leb-false _ _ b) (leb-false _ _ d)
   where
     made : t < st .tables .txns → i < readCount (st .tables) t → s < siteCount (st .tables) → Readable st t i s
@@ -64,20 +60,16 @@ read-has st t i s ok h =
 
 pub submit-has : (st : State) (t : ℕ) → usable st ≡ true → submitRefusal st t ≡ 0 → t < 128
 unfolding submitRefusal
-submit-has st t ok h = let l = leb-false (st .tables .txns) t (passed (leb (st .tables .txns) t) 19 _ h .0) in omega (arith, usable-has st ok .txns)
+submit-has st t ok h = let l = leb-false (st .tables .txns) t (passed 20 (omega arith) (leb (st .tables .txns) t) _ h .0) in omega (arith, usable-has st ok .txns)
 
 -- ---- tables that are judged good
-
-nothing : (a b : ℕ) → orElse a b ≡ 0 → (a ≡ 0) × (b ≡ 0)
-nothing zero b h = (refl, h)
-nothing (suc a) b h = absurd (omega arith)
 
 pub judge-groups : (T : Tables) → judge T ≡ 0 → T .groups ≤ 8
 unfolding judge
 judge-groups T h =
-    let (a, h1) = nothing (keysRefusal (T .keys)) _ h in
-    let (b, h2) = nothing (cond (eqb (T .groups) 0) 3 0) _ h1 in
-    let (d, h3) = nothing (firstOf (T .groups) (groupRefusal T)) _ h2 in
+    let (a, h1) = else-none (keysRefusal (T .keys)) _ h in
+    let (b, h2) = else-none (cond (eqb (T .groups) 0) 3 0) _ h1 in
+    let (d, h3) = else-none (firstOf (T .groups) (groupRefusal T)) _ h2 in
     groups-low T (T .groups) d
 
 -- ---- a store that is being filled

@@ -1,17 +1,17 @@
--- One turn of the walk over groups, what stands before what among refusals, and what the absence of one says.
+-- One turn of the walk over groups, and what the absence of a refusal says.
 -- Assumes nothing.
 use mathlib.Core.Path.{_≡_, refl, sym, _∙_}
-use mathlib.Core.Bool.{Bool, true, false, cond}
+use mathlib.Core.Bool.{cond}
 use mathlib.Core.Logic.{inl, inr}
 use mathlib.Core.List.{List}
-use Prim.Native.Nat.{ℕ, zero, suc, _+_, _-_, _≤_, _<_}
+use Prim.Native.Nat.{ℕ, suc, _+_, _-_, _≤_, _<_}
 use native.Mathlib.Omega.{arith}
 use lib.Dec.{leb, ltb}
 use lib.ListN.{getD}
 use borrow.Author.Tests.{le-leb, ltb-true, ltb-false}
-use Rattle.bounded.specs.Bounded.{orElse, firstOf}
-use Rattle.bounded.proofs.Truth.{bool, or-false}
-use Rattle.bounded.proofs.Laws.{of-none, of-stop}
+use Rattle.bounded.specs.Bounded.{firstOf}
+use Rattle.bounded.proofs.Truth.{bool, or-false, passed}
+use Rattle.bounded.proofs.Laws.{of-none}
 use Rattle.tables.specs.Sites.{sitesIn, keysFrom}
 use Rattle.tables.specs.Judge.{groupRefusal, sizeRefusal, countRefusal}
 use Rattle.tables.specs.declared.Tables.{Tables}
@@ -24,25 +24,12 @@ keys-turn n g sizes masks s l = rw e (unfold keysFrom in refl)
     e : n - g ≡ suc (n - (g + 1))
     e = omega arith
 
--- what is not 0 stands before anything else
-pub else-keep : (a b : ℕ) → (a ≡ 0 → ⊥) → orElse a b ≡ a
-else-keep zero b h = absurd (h refl)
-else-keep (suc a) b h = refl
-
--- a loop that looks for the first that is not 0 returns the one that it finds
-pub stops : (n g x : ℕ) (f : ℕ → ℕ) → g < n → firstOf g f ≡ 0 → x ≡ f g → (x ≡ 0 → ⊥) → x ≡ firstOf n f
-stops n g x f l z e s = e ∙ sym (of-stop n g f l z (λ q. s (e ∙ q)))
-
 -- counts that are not refused are at most eight
 pub count-low : (t r w : ℕ) → countRefusal t r w ≡ 0 → (r ≤ 8) × (w ≤ 8)
 unfolding countRefusal
 count-low t r w h =
-    let (a, b) = or-false (ltb 8 r) _ (or-false (leb 128 t) _ (passed _ h) .1) in
+    let (a, b) = or-false (ltb 8 r) _ (or-false (leb 128 t) _ (passed 5 (omega arith) _ _ h .0) .1) in
     (ltb-false 8 r a, ltb-false 8 w (or-false (ltb 8 w) _ b .0))
-  where
-    passed : (b : Bool) → _≡_ {A = ℕ} (cond b 5 0) 0 → b ≡ false
-    passed true h = absurd (omega arith)
-    passed false h = refl
 
 -- a ninth group is refused, so groups that are not refused are at most eight
 pub ninth : (keys g size n mask : ℕ) → 8 ≤ g → sizeRefusal keys g size n mask ≡ 5

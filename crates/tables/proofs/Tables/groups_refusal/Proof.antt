@@ -5,10 +5,10 @@ use native.Mathlib.Numerals.{add-one}
 use native.Mathlib.Omega.{arith}
 use borrow.Author.Needs.{needs}
 use Rattle.bounded.specs.Bounded.{firstOf, sumBelow}
-use Rattle.bounded.proofs.Laws.{of-up, sum-up}
+use Rattle.bounded.proofs.Laws.{of-up, sum-up, stops}
 use Rattle.tables.specs.Judge.{groupRefusal}
 use Rattle.tables.specs.Sites.{sitesIn}
-use Rattle.tables.proofs.Laws.{ninth, stops}
+use Rattle.tables.proofs.Laws.{ninth}
 use Rattle.tables.proofs.Tables.groups_refusal.Statement.{statement}
 use Rattle.tables.proofs.Tables.groups_refusal.Tie as tie
 

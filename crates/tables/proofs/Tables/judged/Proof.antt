@@ -3,7 +3,8 @@ use mathlib.Core.Path.{sym, _∙_}
 use borrow.Author.Tests.{eq-eqb, ne-eqb}
 use borrow.Author.Needs.{needs}
 use Rattle.tables.specs.Judge.{judge}
-use Rattle.tables.proofs.Laws.{else-keep, groups-low}
+use Rattle.bounded.proofs.Laws.{else-keep}
+use Rattle.tables.proofs.Laws.{groups-low}
 use Rattle.tables.proofs.Tables.judged.Statement.{statement}
 use Rattle.tables.proofs.Tables.judged.Tie as tie
 

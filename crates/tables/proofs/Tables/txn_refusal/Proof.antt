@@ -4,7 +4,8 @@ use native.Mathlib.Omega.{arith}
 use borrow.Author.Tests.{le-leb}
 use borrow.Author.Needs.{needs}
 use Rattle.tables.specs.Judge.{txnRefusal, countRefusal}
-use Rattle.tables.proofs.Laws.{else-keep, count-low}
+use Rattle.bounded.proofs.Laws.{else-keep}
+use Rattle.tables.proofs.Laws.{count-low}
 use Rattle.tables.proofs.Tables.txn_refusal.Statement.{statement}
 use Rattle.tables.proofs.Tables.txn_refusal.Tie as tie
 

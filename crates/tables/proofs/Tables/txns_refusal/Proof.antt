@@ -4,9 +4,8 @@ use Prim.Native.Nat.{_≤_, _-_}
 use native.Mathlib.Omega.{arith}
 use borrow.Author.Needs.{needs}
 use Rattle.bounded.specs.Bounded.{firstOf}
-use Rattle.bounded.proofs.Laws.{of-up}
+use Rattle.bounded.proofs.Laws.{of-up, stops}
 use Rattle.tables.specs.Judge.{txnRefusal}
-use Rattle.tables.proofs.Laws.{stops}
 use Rattle.tables.proofs.Tables.txns_refusal.Statement.{statement}
 use Rattle.tables.proofs.Tables.txns_refusal.Tie as tie
 
