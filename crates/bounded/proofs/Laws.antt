@@ -1,6 +1,6 @@
 -- The laws of tests, sums and searches below a bound: one turn of each, what they say of each number, and where a search stands.
 -- Assumes nothing.
-use Prim.Native.Nat.{ℕ, zero, suc, _+_, _-_, _≤_, _<_}
+use Prim.Native.Nat.{ℕ, zero, suc, _+_, _*_, _-_, _≤_, _<_}
 use mathlib.Core.Path.{_≡_, refl, sym, ap, _∙_}
 use mathlib.Core.Bool.{Bool, true, false, _&&_, _||_}
 use mathlib.Core.Logic.{_⊎_, inl, inr}
@@ -182,3 +182,26 @@ least-stop n i p d l b e t = elim (first-is n (λ j. 0) p d b) [
     ]
   ]
 ]
+
+-- ---- sums
+
+pub sum-same : (n : ℕ) (f g : ℕ → ℕ) → ((i : ℕ) → i < n → f i ≡ g i) → sumBelow n f ≡ sumBelow n g
+unfolding sumBelow
+sum-same zero f g h = refl
+sum-same (suc n) f g h = omega (arith, sum-same n f g (λ i l. h i (omega arith)), h n (omega arith))
+
+-- one of them is one less, the others are the same
+pub sum-less : (n j : ℕ) (f g : ℕ → ℕ) → j < n → ((i : ℕ) → i < n → (i ≡ j → ⊥) → f i ≡ g i) → suc (f j) ≡ g j → suc (sumBelow n f) ≡ sumBelow n g
+unfolding sumBelow
+sum-less zero j f g l h e = absurd (not-suc-le-zero l)
+sum-less (suc n) j f g l h e = go (same n j) (sum-less n j f g)
+  where
+    go : (n ≡ j) ⊎ (n ≡ j → ⊥) → (j < n → ((i : ℕ) → i < n → (i ≡ j → ⊥) → f i ≡ g i) → suc (f j) ≡ g j → suc (sumBelow n f) ≡ sumBelow n g)
+        → suc (sumBelow n f + f n) ≡ sumBelow n g + g n
+    go (inl d) r = let q : suc (f n) ≡ g n = rw d e in omega (arith, sum-same n f g (λ i m. h i (omega arith) (λ x. absurd (omega arith))))
+    go (inr d) r = omega (arith, r (omega arith) (λ i m. h i (omega arith)) e, h n (omega arith) d)
+
+pub sum-most : (n m : ℕ) (f : ℕ → ℕ) → ((i : ℕ) → i < n → f i ≤ m) → sumBelow n f ≤ n * m
+unfolding sumBelow
+sum-most zero m f h = omega arith
+sum-most (suc n) m f h = omega (arith, sum-most n m f (λ i l. h i (omega arith)), h n (omega arith))

@@ -37,7 +37,7 @@ use Rattle.records.specs.Schedule.{scheduleTurn, readSchedule, stepBy, stepsFro
 use Rattle.records.specs.File.{fileOf}
 use Rattle.records.specs.declared.File.{File}
 use Rattle.records.specs.declared.Outcome.the-variants.{Fine, Refused}
-use Rattle.listing.specs.Text.{digitsBy, digitsOf, fieldsOf, lineOf, each}
+use Rattle.text.specs.Text.{digitsBy, digitsOf, fieldsOf, lineOf, each}
 use Rattle.listing.specs.Run.{endOf, answersOf}
 use Rattle.listing.specs.Lines.{stepLines, verdictOf, itemLines, stateLines}
 use Rattle.listing.specs.Listing.{linesOf, listingOf, printed}

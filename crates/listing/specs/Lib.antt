@@ -1,4 +1,3 @@
-pub mod Text
 pub mod Run
 pub mod Lines
 pub mod Listing

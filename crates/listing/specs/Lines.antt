@@ -11,7 +11,7 @@ use Rattle.steps.specs.Answers.{numbersOf}
 use Rattle.machine.specs.declared.State.{State}
 use Rattle.steps.specs.declared.Answer.{Answer}
 use Rattle.steps.specs.declared.Numbers.{Numbers}
-use Rattle.listing.specs.Text.{lineOf, each}
+use Rattle.text.specs.Text.{lineOf, each}
 
 -- STEP, index, answer, two numbers
 abbrev pub stepWord : List ℕ
