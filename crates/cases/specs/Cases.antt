@@ -30,7 +30,7 @@ use Rattle.records.specs.Record.{recordAt}
 use Rattle.records.specs.Rule.{ruleOf, valuesFit, pairsFit, fits}
 use Rattle.records.specs.Walk.{walk}
 use Rattle.records.specs.Cut.{cutTurn, cutOf}
-use Rattle.records.specs.Judge.{inSetup, inSchedule, judgeAt}
+use Rattle.records.specs.Judge.{allowed, inSchedule, judgeAt}
 use Rattle.records.specs.Rows.{row, withKeys, withGroup, withTxn}
 use Rattle.records.specs.Setup.{taken, ended, turnOf, setupTurn, readSetup}
 use Rattle.records.specs.Schedule.{scheduleTurn, readSchedule, stepBy, stepsFrom, stepsOf}
@@ -150,7 +150,7 @@ cases =
 
 pub computed : each-gives cases ≡ true
 unfolding each-gives cases gives-it closedOf closedBy verdicts sames same text hexFrom listingOf linesOf stepLines verdictOf itemLines stateLines endOf answersOf digitsBy digitsOf fieldsOf lineOf each
-    fileOf scheduleTurn readSchedule stepBy stepsFrom stepsOf taken ended turnOf setupTurn readSetup row withKeys withGroup withTxn inSetup inSchedule judgeAt cutTurn cutOf walk ruleOf valuesFit pairsFit fits recordAt number
+    fileOf scheduleTurn readSchedule stepBy stepsFrom stepsOf taken ended turnOf setupTurn readSetup row withKeys withGroup withTxn allowed inSchedule judgeAt cutTurn cutOf walk ruleOf valuesFit pairsFit fits recordAt number
     freshOf Fresh.startOf done decided stepOf firstClosing closesFirst firstDelivering firstCarried firstFrom firstTo todo settleFor settleDone readDone submitDone deliverDone carryDone stored committed closeDone
     readRefusal submitRefusal deliverRefusal voteRefusal carryRefusal verdictRefusal closeRefusal refusal countsFit rowFits txnFits txnsFit placesFit usable headIn blockedIn nextIn submittedIn certifyIn coversKey coveredIn allYesIn verdictBy roomIn
     inRow twice present meets conflictIn someIn allIn touches inside local keysFrom keysRefusal sizeRefusal countRefusal keyRefusal txnRefusal someGroup endRefusal judge noTables

@@ -1,7 +1,7 @@
 -- SETTLE's fuel is enough: each step takes one off what is left to do, no state has more than 34,816 left, so at the end nothing is accepted.
 -- Assumes nothing.
 use Prim.Native.Nat.{ℕ, zero, suc, _+_, _*_, _%_, _≤_, _<_}
-use mathlib.Core.Path.{_≡_, refl, sym, ap, _∙_}
+use mathlib.Core.Path.{_≡_, refl, _∙_}
 use mathlib.Core.Bool.{Bool, true, false, _&&_, not, cond}
 use mathlib.Core.Logic.{_⊎_, inl, inr}
 use mathlib.Core.List.{List}
@@ -29,9 +29,9 @@ use Rattle.machine.specs.Settle.{nowhere, closesFirst, firstClosing, fir
 use Rattle.machine.specs.declared.State.{State}
 use Rattle.machine.specs.declared.Todo.{Todo}
 use Rattle.machine.specs.declared.Todo.the-variants.{Close, Deliver, Carry, Nothing}
-use Rattle.machine.proofs.Laws.{Usable, usable-has}
-use Rattle.machine.proofs.Carry.{Carries, carry-has, deliver-has}
-use Rattle.machine.proofs.Close.{Closes, close-has}
+use Rattle.machine.proofs.Laws.{usable-has}
+use Rattle.machine.proofs.Carry.{carry-has, deliver-has}
+use Rattle.machine.proofs.Close.{close-has}
 use Rattle.machine.proofs.Settle.{Accepted, todo-accepted, after-usable, settle-stops, settle-goes, settle-ends}
 
 -- the arrays are as long as they are declared
@@ -223,7 +223,7 @@ nothing-left st h e =
           (hits n (λ i. 0) (λ s. eqb (carryRefusal st t from s) 0) nowhere (u .sites) to (g .taker) (eq-eqb _ _ r)));
     }
 
-settle-usable : (f n : ℕ) (st : State) → usable st ≡ true → usable (settleFor f n st .next) ≡ true
+pub settle-usable : (f n : ℕ) (st : State) → usable st ≡ true → usable (settleFor f n st .next) ≡ true
 settle-usable zero n st h = rw (settle-ends 0 n st refl) h
 settle-usable (suc f) n st h = turn (is-nothing (todo st)) (settle-usable f (n + 1) (after st (todo st)))
   where

@@ -12,11 +12,10 @@ use types.Run.{OneOf}
 use denote.Enum.Declared.{tagOf}
 use borrow.Author.Tests.{leb-true, leb-false, eqb-true}
 use Rattle.bounded.proofs.Truth.{and-true, or-false}
-use Rattle.tables.specs.declared.Tables.{Tables}
 use Rattle.tables.specs.Judge.{sizeRefusal, countRefusal}
 use Rattle.records.specs.Record.{recordAt}
 use Rattle.records.specs.Rule.{ruleOf, fits, valuesFit, pairsLength, pairsFit}
-use Rattle.records.specs.Judge.{inSetup, judgeBy, judgeAt}
+use Rattle.records.specs.Judge.{allowed, judgeBy, judgeAt}
 use Rattle.records.specs.declared.Record.{Record}
 use Rattle.records.specs.declared.Record.the-variants.{Whole, Short, Cut}
 use Rattle.records.specs.declared.Judged.the-variants.{Good, Bad}
@@ -85,15 +84,15 @@ unfolding ruleOf fits pairsFit
 txn-length s start len h = eqb-true len _ (and-true (leb (2 + getD s start 0) len) _ (and-true (leb 2 len) _ h .1) .1)
 
 -- an allowed tag that is none of the others is TXN's
-pub txn-left : (T : Tables) (tag : ℕ) → inSetup T tag ≡ true → (tag ≡ 0x0F → ⊥) → (tag ≡ 0x01 → ⊥) → (tag ≡ 0x02 → ⊥) → tag ≡ 0x03
-unfolding inSetup
-txn-left T tag h e k g = by (eqb (T .keys) 0) (eqb (T .groups) 0) (eqb tag 0x02) refl h
+pub txn-left : (keys groups txns tag : ℕ) → allowed keys groups txns tag ≡ true → (tag ≡ 0x0F → ⊥) → (tag ≡ 0x01 → ⊥) → (tag ≡ 0x02 → ⊥) → tag ≡ 0x03
+unfolding allowed
+txn-left keys groups txns tag h e k g = by (eqb keys 0) (eqb groups 0) (eqb tag 0x02) refl h
   where
     last : (b : Bool) → eqb tag 0x03 ≡ b → (b || eqb tag 0x0F) ≡ true → tag ≡ 0x03
     last true q i = eqb-true tag 0x03 q
     last false q i = absurd (e (eqb-true tag 0x0F i))
 
-    by : (p q r : Bool) → eqb tag 0x02 ≡ r → cond p (eqb tag 0x01) (cond q (eqb tag 0x02) (cond r (eqb (T .txns) 0) (eqb tag 0x03 || eqb tag 0x0F))) ≡ true → tag ≡ 0x03
+    by : (p q r : Bool) → eqb tag 0x02 ≡ r → cond p (eqb tag 0x01) (cond q (eqb tag 0x02) (cond r (eqb txns 0) (eqb tag 0x03 || eqb tag 0x0F))) ≡ true → tag ≡ 0x03
     by true q r d i = absurd (k (eqb-true tag 0x01 i))
     by false true r d i = absurd (g (eqb-true tag 0x02 i))
     by false false true d i = absurd (g (eqb-true tag 0x02 d))

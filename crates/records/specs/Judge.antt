@@ -12,12 +12,15 @@ use Rattle.records.specs.declared.Judged.{Judged}
 use Rattle.records.specs.declared.Judged.the-variants.{Good, Bad}
 
 -- in setup: KEYS first, then a GROUP, then more GROUP, then TXN; END from the first GROUP on
-unfoldable pub inSetup : Tables → ℕ → Bool
-inSetup T tag =
-    cond (eqb (T .keys) 0) (eqb tag 0x01)
-    (cond (eqb (T .groups) 0) (eqb tag 0x02)
-    (cond (eqb tag 0x02) (eqb (T .txns) 0)
+unfoldable pub allowed : ℕ → ℕ → ℕ → ℕ → Bool
+allowed keys groups txns tag =
+    cond (eqb keys 0) (eqb tag 0x01)
+    (cond (eqb groups 0) (eqb tag 0x02)
+    (cond (eqb tag 0x02) (eqb txns 0)
     (eqb tag 0x03 || eqb tag 0x0F)))
+
+abbrev pub inSetup : Tables → ℕ → Bool
+inSetup T tag = allowed (T .keys) (T .groups) (T .txns) tag
 
 -- in a schedule: tags 10 to 15
 unfoldable pub inSchedule : ℕ → Bool

@@ -1,8 +1,6 @@
 // Files: records of a tag, a two-byte length and a body; the setup read into tables, the schedule into steps.
 ghost use mathlib.Core.Path.{_≡_};
-ghost use mathlib.Core.Bool.{cond, _||_};
 ghost use Prim.Native.Nat.{_+_, _*_, _^_, _<_, _≤_};
-ghost use lib.Dec.{eqb};
 ghost use lib.ListN.{length, getD, drop};
 ghost use Rattle.tables.specs.Empty.{noTables};
 ghost use Rattle.tables.specs.Judge.{groupRefusal, txnRefusal};
@@ -10,7 +8,7 @@ ghost use Rattle.records.specs.Number.{number};
 ghost use Rattle.records.specs.Record.{recordAt};
 ghost use Rattle.records.specs.Rule.{ruleOf, valuesFit, pairsFit, pairsLength, fits};
 ghost use Rattle.records.specs.Cut.{cutOf};
-ghost use Rattle.records.specs.Judge.{inSetup, inSchedule, judgeBy, judgeAt};
+ghost use Rattle.records.specs.Judge.{allowed, inSetup, inSchedule, judgeBy, judgeAt};
 ghost use Rattle.records.specs.Rows.{row, withKeys, withGroup, withTxn, readsOf, writesOf};
 ghost use Rattle.records.specs.Setup.{taken, ended, turnBy, turnOf, readSetup};
 ghost use Rattle.records.specs.Schedule.{readSchedule, stepBy};
@@ -279,7 +277,7 @@ pub fn cut(file: &[u8]) -> usize
 
 // Whether a tag may come next in setup, by what there is so far.
 fn in_setup(keys: u8, groups: u8, txns: u8, tag: u8) -> bool
-    ensures { λ r. ⌜ r ≡ cond (eqb keys 0) (eqb tag 0x01) (cond (eqb groups 0) (eqb tag 0x02) (cond (eqb tag 0x02) (eqb txns 0) (eqb tag 0x03 || eqb tag 0x0F))) ⌝ }
+    ensures { λ r. ⌜ r ≡ allowed keys groups txns tag ⌝ }
 {
     if keys == 0 {
         return tag == KEYS;

@@ -37,7 +37,7 @@ returns-3 c =
 txn-turn-requires : tie.Need-txn-turn-requires
 txn-turn-requires c κs =
     let i = good-is (c .before .before .before .before .pre .1) in
-    let e = txn-left _ _ (i .allowed) (c .before .before .if1 .left) (c .before .if2 .left) (c .if3 .left) in
+    let e = txn-left _ _ _ _ (i .allowed) (c .before .before .if1 .left) (c .before .if2 .left) (c .if3 .left) in
     let l = txn-length _ _ _ (rw e at (i .fitting)) in
     omega (arith, i .lies)
 

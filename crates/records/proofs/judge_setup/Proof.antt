@@ -19,7 +19,7 @@ judge-requires : tie.Need-judge-requires
 judge-requires c κs = search needs
 
 returns : tie.Need-returns
-unfolding judgeAt inSetup
+unfolding judgeAt
 returns c =
     rw (← c .before .before .before .record-at .ensures) (c .judge .ensures ∙ one-tag (inSetup (c .before .before .before .before .before .args .t)) (c .before .before .before .before .before .args .s .now) (c .before .before .before .record-at .result) (c .before .in-setup .result) (rw (← c .before .before .tag-of .ensures) (c .before .in-setup .ensures)))
 
