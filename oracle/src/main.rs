@@ -58,14 +58,24 @@ fn command(words: &[&str]) -> Result<Vec<u8>, String> {
             text(check::check(number(count)?, number(seed)?, check_options(options)?))
         }
         ["cases"] => text(cases::run()),
-        ["fuzz", program, count, seed] => {
-            text(fuzz::fuzz(program, "any", number(count)?, number(seed)?))
+        ["fuzz", "--serve", count, seed, kind, ref words @ ..] => {
+            text(fuzz::fuzz(&plan(fuzz::Way::Serve, count, seed, kind, words)?))
         }
-        ["fuzz", program, count, seed, kind] => {
-            text(fuzz::fuzz(program, kind, number(count)?, number(seed)?))
+        ["fuzz", count, seed, kind, ref words @ ..] => {
+            text(fuzz::fuzz(&plan(fuzz::Way::Each, count, seed, kind, words)?))
         }
         _ => Err(usage()),
     }
+}
+
+fn plan<'a>(
+    way: fuzz::Way,
+    count: &str,
+    seed: &str,
+    kind: &'a str,
+    words: &'a [&'a str],
+) -> Result<fuzz::Plan<'a>, String> {
+    Ok(fuzz::Plan { way, kind, count: number(count)?, seed: number(seed)?, words })
 }
 
 fn check_options(words: &[&str]) -> Result<check::Options, String> {
@@ -114,7 +124,7 @@ fn usage() -> String {
         "usage: oracle list [--plain] | show | cases\n\
          \x20      oracle generate KIND SEED [COUNT DIR]\n\
          \x20      oracle check COUNT SEED [--demands] [--break NAME]\n\
-         \x20      oracle fuzz PROGRAM COUNT SEED [KIND]\n\
+         \x20      oracle fuzz [--serve] COUNT SEED KIND PROGRAM WORDS..\n\
          kinds: {}\nmistakes to break with:\n",
         generate::kind_names()
     );

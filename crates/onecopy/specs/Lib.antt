@@ -1,2 +1,4 @@
 pub mod Copy
+pub mod View
+pub mod Serial
 pub mod Example
