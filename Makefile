@@ -1,12 +1,23 @@
 # `make test` is the whole gate: the proofs, then the host tests. Its last line is 'N passed, 0 failed'.
-.PHONY: test run
+.PHONY: test run fuzz
+
+N = 1000
+SEED = 1
 
 test:
 	@host/gate
 
-# The listing of a sample file, by the second program.
-run: target/oracle
-	@python3 host/bytes.py examples/case-a.hex | target/oracle list
+# The listings of the sample files.
+run:
+	@mkdir -p target; rt check pstore >target/run.log 2>&1 || { cat target/run.log; exit 1; }
+	@for file in examples/*.hex; do echo "== $$file"; python3 host/bytes.py $$file | host/on target/bin/pstore; done
+
+# The compiled library against the second program, on N fresh files of every kind.
+fuzz: target/oracle
+	@mkdir -p target/host
+	@rt staticlib listing >target/host/staticlib.log 2>&1 || { cat target/host/staticlib.log; exit 1; }
+	@host/cc plain target/host/serve host/harness.c target/staticlib/liblisting.a
+	@target/oracle fuzz --serve $(N) $(SEED) any host/on target/host/serve serve
 
 target/oracle: $(wildcard oracle/src/*.rs)
 	@mkdir -p target

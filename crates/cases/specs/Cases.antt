@@ -39,7 +39,7 @@ use Rattle.records.specs.declared.File.{File}
 use Rattle.records.specs.declared.Outcome.the-variants.{Fine, Refused}
 use Rattle.text.specs.Text.{digitsBy, digitsOf, fieldsOf, lineOf, each}
 use Rattle.listing.specs.Run.{endOf, answersOf}
-use Rattle.listing.specs.Lines.{stepLines, verdictOf, itemLines, stateLines}
+use Rattle.listing.specs.Lines.{stepLines, verdictIn, itemLines, stateLines}
 use Rattle.listing.specs.Listing.{linesOf, listingOf, printed}
 use Rattle.cases.specs.Written.{text, hex, hexFrom}
 
@@ -149,7 +149,7 @@ cases =
     ∷ []
 
 pub computed : each-gives cases ≡ true
-unfolding each-gives cases gives-it closedOf closedBy verdicts sames same text hexFrom listingOf linesOf stepLines verdictOf itemLines stateLines endOf answersOf digitsBy digitsOf fieldsOf lineOf each
+unfolding each-gives cases gives-it closedOf closedBy verdicts sames same text hexFrom listingOf linesOf stepLines verdictIn itemLines stateLines endOf answersOf digitsBy digitsOf fieldsOf lineOf each
     fileOf scheduleTurn readSchedule stepBy stepsFrom stepsOf taken ended turnOf setupTurn readSetup row withKeys withGroup withTxn allowed inSchedule judgeAt cutTurn cutOf walk ruleOf valuesFit pairsFit fits recordAt number
     freshOf Fresh.startOf done decided stepOf firstClosing closesFirst firstDelivering firstCarried firstFrom firstTo todo settleFor settleDone readDone submitDone deliverDone carryDone stored committed closeDone
     readRefusal submitRefusal deliverRefusal voteRefusal carryRefusal verdictRefusal closeRefusal refusal countsFit rowFits txnFits txnsFit placesFit usable headIn blockedIn nextIn submittedIn certifyIn coversKey coveredIn allYesIn verdictBy roomIn

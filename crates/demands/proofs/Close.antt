@@ -47,16 +47,16 @@ use Rattle.demands.proofs.Sized.{Arrays, stored-length}
 -- ---- the stores of a commit
 
 module _ {A : Type 0} (T : Tables) (t s : ℕ) (d : A) (f : ℕ → A → A) (l : List A) where
-  -- a cell that no written key of s has is as it was
-  pub stored-other : (n j : ℕ) → ((i : ℕ) → i < n → j ≡ s * 64 + writeKey T t i → ⊥) → getD (stored T t s d f l n) j d ≡ getD l j d
+  -- a cell that no written key held by s has is as it was
+  pub stored-other : (n j : ℕ) → ((i : ℕ) → i < n → holds T s (writeKey T t i) ≡ true → j ≡ s * 64 + writeKey T t i → ⊥) → getD (stored T t s d f l n) j d ≡ getD l j d
   unfolding stored
   stored-other zero j h = refl
-  stored-other (suc n) j h = by (holds T s (writeKey T t n)) (stored-other n j (λ i b. h i (omega arith)))
+  stored-other (suc n) j h = by (holds T s (writeKey T t n)) refl (stored-other n j (λ i b. h i (omega arith)))
     where
-      by : (b : Bool) → getD (stored T t s d f l n) j d ≡ getD l j d
+      by : (b : Bool) → holds T s (writeKey T t n) ≡ b → getD (stored T t s d f l n) j d ≡ getD l j d
           → getD (cond b (set (stored T t s d f l n) (s * 64 + writeKey T t n) (f n (getD l (s * 64 + writeKey T t n) d))) (stored T t s d f l n)) j d ≡ getD l j d
-      by true e = getD-set-other (stored T t s d f l n) (s * 64 + writeKey T t n) j (f n (getD l (s * 64 + writeKey T t n) d)) d (h n (omega arith)) ∙ e
-      by false e = e
+      by true k e = getD-set-other (stored T t s d f l n) (s * 64 + writeKey T t n) j (f n (getD l (s * 64 + writeKey T t n) d)) d (h n (omega arith) k) ∙ e
+      by false k e = e
 
   -- the cell of the i-th written key, where s holds it
   pub stored-at : (n i : ℕ) → i < n → ((j : ℕ) → j < n → writeKey T t i ≡ writeKey T t j → i ≡ j) → holds T s (writeKey T t i) ≡ true → s * 64 + writeKey T t i < length l
@@ -131,8 +131,8 @@ module _ (st : State) (g : Taken (st .tables)) (z : Arrays st) (t s c : ℕ) (tx
     stored-other T t s 0 (λ i x. writeValue T t i) (st .values) n (a * 64 + k) apart-from j,
   )
     where
-      apart-from : (i : ℕ) → i < n → a * 64 + k ≡ s * 64 + writeKey T t i → ⊥
-      apart-from i l e =
+      apart-from : (i : ℕ) → i < n → holds T s (writeKey T t i) ≡ true → a * 64 + k ≡ s * 64 + writeKey T t i → ⊥
+      apart-from i l _ e =
           let (p, q) = Cells.apart 64 a k s (writeKey T t i) (omega (arith, g .low a k h, g .keys)) (omega (arith, g .writes t txn .low i l, g .keys)) e in
           ne (p, subst (λ k. tableOf T .writes t k ≡ true) (sym q) (listed-put (T .txns) t n i (T .writes) txn l))
 

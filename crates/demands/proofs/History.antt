@@ -25,13 +25,13 @@ use Rattle.machine.specs.declared.State.{State}
 use Rattle.machine.specs.declared.Todo.{Todo}
 use Rattle.machine.specs.declared.Todo.the-variants as todo
 use Rattle.machine.proofs.Settle.{Accepted}
+use Rattle.listing.specs.Run.{endOf}
 use Rattle.onecopy.proofs.Base.{sum-zero}
 use Rattle.onecopy.proofs.Ordering.{counter}
 use Rattle.onecopy.proofs.World.{count, Reached, holds}
 use Rattle.onecopy.proofs.Count as Count
 use Rattle.onecopy.proofs.Settle.{Runs, none, then, runs-same}
 use Rattle.demands.specs.View.{tableOf}
-use Rattle.demands.specs.Reach.{reach}
 use Rattle.demands.specs.Settle.{stepsOn, doneOn, stepsDone, stepsIn, stepsTaken}
 use Rattle.demands.proofs.Tables.{Taken, taken}
 use Rattle.demands.proofs.View.{viewOf, planOf, worldOf}
@@ -83,13 +83,13 @@ module _ (T : Tables) (g : Taken T) where
         by true e = done-counts x (eqb-true (refusal st x) 0 e)
         by false e = omega arith
 
-  list-counts : (l : List Step) (st : State) → Stands T st → stepsDone (reach st l) ≡ stepsTaken st l + stepsDone st
-  unfolding reach stepsTaken
+  list-counts : (l : List Step) (st : State) → Stands T st → stepsDone (endOf st l) ≡ stepsTaken st l + stepsDone st
+  unfolding endOf stepsTaken
   list-counts [] st h = omega arith
   list-counts (x ∷ l) st h = omega (arith, list-counts l (stepOf st x .next) (step-stands T g st h x), step-counts st h x)
 
 -- from fresh
-pub done-is-taken : (T : Tables) → judge T ≡ 0 → (l : List Step) → stepsDone (reach (freshOf T .state) l) ≡ stepsTaken (freshOf T .state) l
+pub done-is-taken : (T : Tables) → judge T ≡ 0 → (l : List Step) → stepsDone (endOf (freshOf T .state) l) ≡ stepsTaken (freshOf T .state) l
 done-is-taken T e l = omega (arith, list-counts T (taken T e) l (freshOf T .state) (fresh-stands T e), nothing)
   where
     start : stepsDone (startOf T) ≡ 0

@@ -17,3 +17,12 @@ pub mod Reached
 pub mod OneCopy
 pub mod Sum
 pub mod History
+pub mod Says
+pub mod Notions
+pub mod Permits
+pub mod Does
+pub mod Settling
+pub mod Protocol
+pub mod Determined
+pub mod Steps
+pub mod File

@@ -16,13 +16,13 @@ use Rattle.machine.specs.Parts.{placeOf, closedAt}
 use Rattle.machine.specs.Effects.{nextPlace}
 use Rattle.machine.specs.Fresh.{freshOf}
 use Rattle.machine.specs.declared.State.{State}
+use Rattle.listing.specs.Run.{endOf}
 use Rattle.onecopy.specs.Copy.{oneCopy}
 use Rattle.onecopy.specs.View.{View, single}
 use Rattle.onecopy.specs.Serial.{Serial}
 use Rattle.onecopy.specs.Serial as Theory
 use Rattle.onecopy.proofs.World.{Reached, Holds, holds as held, demand3}
 use Rattle.demands.specs.View.{tableOf, orderOf, copyOf}
-use Rattle.demands.specs.Reach.{reach}
 use Rattle.demands.specs.OneCopy.{returned, replica, Matches, OneCopy}
 use Rattle.demands.proofs.Below.{any-same}
 use Rattle.demands.proofs.Tables.{Taken, taken, slot-at}
@@ -97,5 +97,5 @@ pub stands-one-copy : (T : Tables) → Taken T → (st : State) → Stands T st 
 stands-one-copy T g st h = subst (λ (T : Tables). Taken T → Reached (planOf T) (worldOf T st) → OneCopy st) (h .whole .tables) (one-copy st) g (h .reached)
 
 -- demand 3
-pub every-state-one-copy : (T : Tables) → judge T ≡ 0 → (l : List Step) → OneCopy (reach (freshOf T .state) l)
-every-state-one-copy T e l = stands-one-copy T (taken T e) (reach (freshOf T .state) l) (stands T e l)
+pub every-state-one-copy : (T : Tables) → judge T ≡ 0 → (l : List Step) → OneCopy (endOf (freshOf T .state) l)
+every-state-one-copy T e l = stands-one-copy T (taken T e) (endOf (freshOf T .state) l) (stands T e l)

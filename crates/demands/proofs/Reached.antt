@@ -22,9 +22,9 @@ use Rattle.machine.specs.declared.Stepped.{Stepped}
 use Rattle.machine.specs.declared.Todo.the-variants as todo
 use Rattle.machine.proofs.Settle as Settle
 use Rattle.machine.proofs.Kept.{step-usable}
+use Rattle.listing.specs.Run.{endOf}
 use Rattle.onecopy.proofs.World as World
 use Rattle.onecopy.proofs.World.{Steps, after, Holds}
-use Rattle.demands.specs.Reach.{reach}
 use Rattle.demands.proofs.Tables.{Taken, taken}
 use Rattle.demands.proofs.View.{planOf, worldOf}
 use Rattle.demands.proofs.Sized.{read-arrays, submit-arrays, fresh-whole}
@@ -74,22 +74,22 @@ module _ (T : Tables) (g : Taken T) (st : State) (h : Stands T st) where
       by false e = h
 
 -- after any list of steps
-pub reach-stands : (T : Tables) → Taken T → (st : State) → Stands T st → (l : List Step) → Stands T (reach st l)
-unfolding reach
-reach-stands T g st h [] = h
-reach-stands T g st h (x ∷ l) = reach-stands T g (stepOf st x .next) (step-stands T g st h x) l
+pub list-stands : (T : Tables) → Taken T → (st : State) → Stands T st → (l : List Step) → Stands T (endOf st l)
+unfolding endOf
+list-stands T g st h [] = h
+list-stands T g st h (x ∷ l) = list-stands T g (stepOf st x .next) (step-stands T g st h x) l
 
 -- from fresh, of tables that the reader takes
 pub fresh-stands : (T : Tables) → judge T ≡ 0 → Stands T (freshOf T .state)
 unfolding freshOf
 fresh-stands T e = rw e (record { whole = fresh-whole T e; handed = fresh-handed T; reached = fresh-reached T (taken T e) })
 
-pub stands : (T : Tables) → judge T ≡ 0 → (l : List Step) → Stands T (reach (freshOf T .state) l)
-stands T e l = reach-stands T (taken T e) (freshOf T .state) (fresh-stands T e) l
+pub stands : (T : Tables) → judge T ≡ 0 → (l : List Step) → Stands T (endOf (freshOf T .state) l)
+stands T e l = list-stands T (taken T e) (freshOf T .state) (fresh-stands T e) l
 
 -- and there each version is at most 129
-pub versions : (T : Tables) → judge T ≡ 0 → (l : List Step) (s k : ℕ) → holds (reach (freshOf T .state) l .tables) s k ≡ true → versionAt (reach (freshOf T .state) l) s k ≤ 129
-versions T e l s k = by (reach (freshOf T .state) l) (stands T e l)
+pub versions : (T : Tables) → judge T ≡ 0 → (l : List Step) (s k : ℕ) → holds (endOf (freshOf T .state) l .tables) s k ≡ true → versionAt (endOf (freshOf T .state) l) s k ≤ 129
+versions T e l s k = by (endOf (freshOf T .state) l) (stands T e l)
   where
     by : (st : State) → Stands T st → holds (st .tables) s k ≡ true → versionAt st s k ≤ 129
     by st h = version-most st s k (h .whole .usable) (subst (λ (T : Tables). Holds (planOf T) (worldOf T st)) (sym (h .whole .tables)) (World.holds (planOf T) (h .reached)))

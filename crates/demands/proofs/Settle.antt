@@ -41,6 +41,12 @@ Some (Deliver s) = Unit {0}
 Some (Carry t from to) = Unit {0}
 Some Nothing = ⊥
 
+pub is-nothing : (x : Todo) → (x ≡ Nothing) ⊎ Some x
+is-nothing (Close t s) = inr tt
+is-nothing (Deliver s) = inr tt
+is-nothing (Carry t from to) = inr tt
+is-nothing Nothing = inl refl
+
 here : (st : State) (x : Todo) → Arrays st → Taken (st .tables) → Sound st → Accepted st x → Some x
     → Ends (planOf (st .tables)) (worldOf (st .tables) st) (worldOf (st .tables) (after st x))
 here st (Close t s) z g w a d = close-step st t s g z w a
@@ -82,12 +88,6 @@ module _ (T : Tables) (g : Taken T) where
   over st h f = subst (λ (T : Tables). Taken T → Holds (planOf T) (worldOf T st) → Over (planOf T) (worldOf T st)) (h .whole .tables) (idle st (h .whole .usable) f) g (holds (planOf T) (h .reached))
 
   -- ---- all of them
-
-  is-nothing : (x : Todo) → (x ≡ Nothing) ⊎ Some x
-  is-nothing (Close t s) = inr tt
-  is-nothing (Deliver s) = inr tt
-  is-nothing (Carry t from to) = inr tt
-  is-nothing Nothing = inl refl
 
   -- SETTLE answers the steps from the world w
   pub record Run (w : World (planOf T)) (r : Stepped) : Type 0 where

@@ -27,6 +27,7 @@ use Rattle.machine.specs.Steps.{done, decided, stepOf}
 use Rattle.machine.specs.Fresh.{freshOf}
 use Rattle.machine.specs.declared.State.{State}
 use Rattle.machine.specs.declared.Stepped.{Stepped}
+use Rattle.listing.specs.Run.{endOf}
 use Rattle.onecopy.specs.View.{View}
 use Rattle.onecopy.proofs.Base.{sum-zero}
 use Rattle.onecopy.proofs.Count.{tick, Count, todo}
@@ -35,7 +36,6 @@ use Rattle.onecopy.proofs.Ordering.{counter}
 use Rattle.onecopy.proofs.World.{count, Reached, Holds, holds}
 use Rattle.onecopy.proofs.Settle as Theory
 use Rattle.demands.specs.View.{tableOf}
-use Rattle.demands.specs.Reach.{reach}
 use Rattle.demands.specs.Settle.{stepsOn, doneOn, stepsInAll, stepsDone, Settles}
 use Rattle.demands.proofs.Below.{and-false}
 use Rattle.demands.proofs.Tables.{Taken, taken}
@@ -187,8 +187,8 @@ pub stands-settles : (T : Tables) → Taken T → (st : State) → Stands T st �
 stands-settles T g st h = subst (λ (T : Tables). Taken T → Stands T st → Settles st) (h .whole .tables) (here st) g h
 
 -- SETTLE from every state reached from fresh
-pub every-settle : (T : Tables) → judge T ≡ 0 → (l : List Step) → Settles (reach (freshOf T .state) l)
-every-settle T e l = stands-settles T (taken T e) (reach (freshOf T .state) l) (stands T e l)
+pub every-settle : (T : Tables) → judge T ≡ 0 → (l : List Step) → Settles (endOf (freshOf T .state) l)
+every-settle T e l = stands-settles T (taken T e) (endOf (freshOf T .state) l) (stands T e l)
 
 -- the most per transaction is 272
 pub most-steps : (T : Tables) → judge T ≡ 0 → (t : ℕ) → stepsOn T t ≤ 272

@@ -22,9 +22,9 @@ use Rattle.machine.specs.Effects.{readDone, submitDone, deliverDone, carryDone,
 use Rattle.machine.specs.Settle.{firstClosing, closesFirst, firstDelivering, firstCarried, firstFrom, firstTo, todo, settleFor, settleDone}
 use Rattle.machine.specs.Steps.{done, decided, stepOf}
 use Rattle.machine.specs.Fresh.{startOf, freshOf}
+use Rattle.listing.specs.Run.{endOf}
 use Rattle.onecopy.specs.Copy.{run, chosen}
 use Rattle.demands.specs.View.{slot, whoseIn, copyOf}
-use Rattle.demands.specs.Reach.{reach}
 use Rattle.demands.specs.Settle.{stepsOn, doneOn, stepsInAll, stepsDone, stepsTaken}
 
 -- site 0 holds key 0, site 1 key 1; t0 reads 0 and writes 7 to 1, t1 reads 1 and writes 9 to 0
@@ -52,11 +52,11 @@ unfolding keysRefusal sizeRefusal countRefusal keyRefusal txnRefusal someGroup e
 taken = refl
 
 -- t0 commits and t1 aborts: key 1 has version 2 with value 7, key 0 is as it was; ten steps in all, all done
-at-the-end : let st = reach (freshOf tables .state) steps in
+at-the-end : let st = endOf (freshOf tables .state) steps in
     _≡_ {A = List ℕ}
     (copyOf st 3 0 .0 ∷ copyOf st 3 0 .1 ∷ copyOf st 3 1 .0 ∷ copyOf st 3 1 .1 ∷ stepsInAll st ∷ stepsDone st ∷ stepsTaken (freshOf tables .state) steps ∷ [])
     (1 ∷ 100 ∷ 2 ∷ 7 ∷ 10 ∷ 10 ∷ 10 ∷ [])
-unfolding reach stepsOn doneOn stepsTaken slot whoseIn run chosen
+unfolding endOf stepsOn doneOn stepsTaken slot whoseIn run chosen
     freshOf startOf done decided stepOf firstClosing closesFirst firstDelivering firstCarried firstFrom firstTo todo settleFor settleDone readDone submitDone deliverDone carryDone stored committed closeDone
     readRefusal submitRefusal deliverRefusal voteRefusal carryRefusal verdictRefusal closeRefusal refusal countsFit rowFits txnFits txnsFit placesFit usable headIn blockedIn nextIn submittedIn certifyIn coversKey coveredIn allYesIn verdictBy roomIn
     inRow twice present meets conflictIn someIn allIn touches inside local keysFrom keysRefusal sizeRefusal countRefusal keyRefusal txnRefusal someGroup endRefusal judge noTables

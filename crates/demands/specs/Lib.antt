@@ -1,5 +1,7 @@
+pub mod Steps
+pub mod Protocol
 pub mod View
-pub mod Reach
 pub mod OneCopy
 pub mod Settle
+pub mod File
 pub mod Example

@@ -19,11 +19,8 @@ use Rattle.records.specs.Judge.{allowed, judgeBy, judgeAt}
 use Rattle.records.specs.declared.Record.{Record}
 use Rattle.records.specs.declared.Record.the-variants.{Whole, Short, Cut}
 use Rattle.records.specs.declared.Judged.the-variants.{Good, Bad}
-use Rattle.records.proofs.Laws.{Lies, whole-lies}
+use Rattle.records.proofs.Laws.{apart, Lies, whole-lies}
 use Rattle.records.proofs.Record as R
-
-apart : _≡_ {A = ℕ} 0 1 → ⊥
-apart never = omega arith
 
 -- only the tag of what was found is asked about
 pub one-tag : (p : ℕ → Bool) (s : List ℕ) (r : Record) (b : Bool) → b ≡ p (elim r [ Whole tag start len next ↦ tag | Short tag ↦ tag | Cut ↦ 0 ]) → judgeBy (λ tag. b) s r ≡ judgeBy p s r

@@ -80,7 +80,8 @@ pub record Lies (s : List ℕ) (at start len next : ℕ) : Type 0 where
   pub ends : next ≡ start + len
   pub within : next ≤ length s
 
-apart : (never : _≡_ {A = ℕ} 0 1) → ⊥
+-- two variants differ
+pub apart : _≡_ {A = ℕ} 0 1 → ⊥
 apart never = omega arith
 
 pub whole-lies : {s : List ℕ} {at tag start len next : ℕ} → recordAt s at ≡ Whole tag start len next → Lies s at start len next

@@ -128,7 +128,7 @@ pub fn u64_at(s: &[u8], at: usize) -> u64
 }
 
 // What stands at a position; a header cut comes before a body cut.
-pub fn record_at(s: &[u8], at: usize) -> Record
+fn record_at(s: &[u8], at: usize) -> Record
     ensures { λ r. ⌜ r ≡ recordAt (now (s .entry)) at ⌝ }
 {
     if s.len() < 3 {
@@ -150,6 +150,33 @@ pub fn record_at(s: &[u8], at: usize) -> Record
     } else {
         Record::Short(tag)
     }
+}
+
+// The reader of records: the file and its own position.
+pub struct Reader<'a> {
+    pub src: &'a [u8],
+    pub at: usize,
+}
+
+// The reader of a file at a position.
+pub fn reader_at<'a>(src: &'a [u8], at: usize) -> Reader<'a>
+    ensures { λ r. ⌜ (r .src ≡ src .entry) × (r .at ≡ at) ⌝ }
+{
+    Reader { src, at }
+}
+
+// What stands at the reader's own position.
+pub fn next_record<'a>(r: Reader<'a>) -> Record
+    ensures { λ s. ⌜ s ≡ recordAt (now (r .entry .src)) (r .entry .at) ⌝ }
+{
+    record_at(r.src, r.at)
+}
+
+// What a reader of s at a position finds there.
+pub fn record_from(s: &[u8], at: usize) -> Record
+    ensures { λ r. ⌜ r ≡ recordAt (now (s .entry)) at ⌝ }
+{
+    next_record(reader_at(s, at))
 }
 
 // The rules that are no exact length: first values of keys; key bytes and pairs; no such tag.
@@ -264,7 +291,7 @@ pub fn cut(file: &[u8]) -> usize
             start: _,
             len: _,
             next,
-        } = record_at(file, at)
+        } = record_from(file, at)
         else {
             return file.len();
         };
@@ -357,7 +384,7 @@ fn judge(s: &[u8], found: Record, ok: bool) -> Judged
 fn judge_setup(t: Tables, s: &[u8], at: usize) -> Judged
     ensures { λ r. ⌜ r ≡ judgeAt (inSetup t) (now (s .entry)) at ⌝ }
 {
-    let found = record_at(s, at);
+    let found = record_from(s, at);
     judge(s, found, in_setup(t.keys, t.groups, t.txns, tag_of(found)))
 }
 
@@ -365,7 +392,7 @@ fn judge_setup(t: Tables, s: &[u8], at: usize) -> Judged
 fn judge_schedule(s: &[u8], at: usize) -> Judged
     ensures { λ r. ⌜ r ≡ judgeAt inSchedule (now (s .entry)) at ⌝ }
 {
-    let found = record_at(s, at);
+    let found = record_from(s, at);
     judge(s, found, in_schedule(tag_of(found)))
 }
 

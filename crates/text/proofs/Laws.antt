@@ -9,8 +9,8 @@ use native.Mathlib.Nat.{add-suc, add-zero, pow-suc, suc-add}
 use native.Mathlib.Numerals.{add-one}
 use native.Mathlib.Omega.{arith}
 use lib.Dec.{ltb}
-use lib.ListN.{length, getD, set, length-append}
-use lib.Seq.{sets, length-sets}
+use lib.ListN.{length, getD, set, take, drop, length-append}
+use lib.Seq.{sets, length-sets, sets-eq}
 use borrow.Author.Tests.{lt-ltb, le-ltb, ltb-true, ltb-false}
 use Rattle.text.specs.Text.{digitsBy, digitsOf, fieldsOf, each}
 use Rattle.text.specs.Wrote.{put, Wrote}
@@ -35,6 +35,18 @@ then {l} {m} {n} {a} {b} {c} {xs} {ys} v w = record {
 pub same-length : {l m : List ℕ} {at next : ℕ} {xs : List ℕ} → Wrote l at m next xs → length m ≡ length l
 unfolding put
 same-length {l} {m} {at} {next} {xs} w = ap length (w .bytes) ∙ length-sets l at xs
+
+-- where there is room, a write changes the places from at on, as many as are written, and no other
+pub within : {l m : List ℕ} {at next : ℕ} {xs : List ℕ} → Wrote l at m next xs → next ≤ length l → m ≡ take at l ++ xs ++ drop next l
+unfolding put
+within {l} {m} {at} {next} {xs} w room = rw (w .place, w .bytes) (sets-eq xs l at (rw (w .place) at room))
+
+-- a write from the buffer's start: the next place is the length of what was written, which stands before the rest
+pub start-length : {l m : List ℕ} {next : ℕ} {xs : List ℕ} → Wrote l 0 m next xs → next ≡ length xs
+start-length w = omega arith
+
+pub start-within : {l m : List ℕ} {next : ℕ} {xs : List ℕ} → Wrote l 0 m next xs → next ≤ length l → m ≡ xs ++ drop (length xs) l
+start-within w room = rw (start-length w) at (within w room)
 
 each-more : (f : ℕ → List ℕ) (i : ℕ) → each (i + 1) f ≡ each i f ++ f i
 unfolding each

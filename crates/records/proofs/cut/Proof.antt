@@ -21,14 +21,14 @@ abbrev μ-loop : tie.MeasureT-loop
 -- a record that is no END: the turn goes on
 goes : (c : tie.Else1 Inv-loop μ-loop) → cutTurn (c .before .before .before .before .before .before .before .args .file .now) (c .before .before .before .before .before .loop .at) ≡ go (c .before .before .tag .given .0 .1 .1 .1 .0)
 unfolding cutTurn
-goes c = rw (← c .before .before .before .before .record-at .ensures, c .before .before .tag .given .1, ne-eqb _ _ (c .if1 .left))
+goes c = rw (← c .before .before .before .before .record-from .ensures, c .before .before .tag .given .1, ne-eqb _ _ (c .if1 .left))
 
 loop-holds : tie.Need-loop-holds Inv-loop μ-loop
 unfolding cutOf
 loop-holds c = rw sub-zero
 
-record-at-requires : tie.Need-record-at-requires Inv-loop μ-loop
-record-at-requires c κs = search needs
+record-from-requires : tie.Need-record-from-requires Inv-loop μ-loop
+record-from-requires c κs = search needs
 
 enum-known-tag : tie.Need-enum-known-tag Inv-loop μ-loop
 enum-known-tag c = search needs
@@ -36,12 +36,12 @@ enum-known-tag c = search needs
 returns : tie.Need-returns Inv-loop μ-loop
 unfolding cutTurn
 returns c =
-    sym (walk-stops _ _ _ _ _ (rw (← c .before .record-at .ensures) (other-stops _ (c .before .record-at .result) (c .match .keys2)))) ∙ c .before .before .loop .inv
+    sym (walk-stops _ _ _ _ _ (rw (← c .before .record-from .ensures) (other-stops _ (c .before .record-from .result) (c .match .keys2)))) ∙ c .before .before .loop .inv
 
 returns-2 : tie.Need-returns-2 Inv-loop μ-loop
 unfolding cutTurn
 returns-2 c =
-    sym (walk-stops _ _ _ _ _ (rw (← c .before .before .before .before .record-at .ensures, c .before .before .tag .given .1, eq-eqb _ _ (c .if1 .taken)))) ∙ c .before .before .before .before .before .loop .inv
+    sym (walk-stops _ _ _ _ _ (rw (← c .before .before .before .before .record-from .ensures, c .before .before .tag .given .1, eq-eqb _ _ (c .if1 .taken)))) ∙ c .before .before .before .before .before .loop .inv
 
 loop-less : tie.Need-loop-less Inv-loop μ-loop
 loop-less c = cut-falls _ _ _ (goes c)
@@ -56,7 +56,7 @@ cut-spec =
     Inv-loop
     μ-loop
     loop-holds
-    record-at-requires
+    record-from-requires
     enum-known-tag
     returns
     returns-2

@@ -6,8 +6,8 @@ use Rattle.records.proofs.Fine.{one-tag}
 use Rattle.records.proofs.judge_setup.Statement.{statement}
 use Rattle.records.proofs.judge_setup.Tie as tie
 
-record-at-requires : tie.Need-record-at-requires
-record-at-requires c κs = search needs
+record-from-requires : tie.Need-record-from-requires
+record-from-requires c κs = search needs
 
 tag-of-requires : tie.Need-tag-of-requires
 tag-of-requires c κs = search needs
@@ -21,9 +21,9 @@ judge-requires c κs = search needs
 returns : tie.Need-returns
 unfolding judgeAt
 returns c =
-    rw (← c .before .before .before .record-at .ensures) (c .judge .ensures ∙ one-tag (inSetup (c .before .before .before .before .before .args .t)) (c .before .before .before .before .before .args .s .now) (c .before .before .before .record-at .result) (c .before .in-setup .result) (rw (← c .before .before .tag-of .ensures) (c .before .in-setup .ensures)))
+    rw (← c .before .before .before .record-from .ensures) (c .judge .ensures ∙ one-tag (inSetup (c .before .before .before .before .before .args .t)) (c .before .before .before .before .before .args .s .now) (c .before .before .before .record-from .result) (c .before .in-setup .result) (rw (← c .before .before .tag-of .ensures) (c .before .in-setup .ensures)))
 
 pub judge-setup-spec : {M : Type 1} → statement M
 judge-setup-spec =
     tie.close
-    (tie.spec record-at-requires tag-of-requires in-setup-requires judge-requires returns)
+    (tie.spec record-from-requires tag-of-requires in-setup-requires judge-requires returns)
