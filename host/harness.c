@@ -118,6 +118,7 @@ static void limits(void)
     static const uint8_t setup[] = {
         0x01, 0, 4, 0, 0, 0, 5, 0x02, 0, 9, 1, 0, 0, 0, 0, 0, 0, 0, 1, 0x0F, 0, 0};
     uint8_t *file = space(PSTORE_FILE + 1);
+    uint8_t *listing = space(PSTORE_ROOM);
     size_t i;
 
     expect("empty", file, 0, -2);
@@ -135,8 +136,12 @@ static void limits(void)
         file[i + 3] = 0;
     }
     expect("a schedule cut in its last record", file, PSTORE_FILE, -2);
-    check("a long schedule", file, i);
     expect("a long schedule with one byte too many", file, PSTORE_FILE + 1, -1);
+    if (call("a long schedule", file, i, listing, PSTORE_ROOM) <= 0) {
+        fail("no listing", "a long schedule", PSTORE_ROOM);
+    }
+    check("a schedule of a hundred steps", file, sizeof setup + 400);
+    free(listing);
     free(file);
 }
 

@@ -14,6 +14,7 @@ use Rattle.tables.specs.Sites.{siteCount}
 use Rattle.tables.specs.Concern.{concerns, local}
 use Rattle.tables.specs.declared.Tables.{Tables}
 use Rattle.rules.specs.Queue.{submittedIn}
+use Rattle.refusals.specs.Refusals.{carryRefusalIn, voteRefusalIn}
 use Rattle.machine.specs.Parts.{castBy, carriedTo, withCarried}
 use Rattle.machine.specs.Rules.{holdsVoteOf}
 use Rattle.machine.specs.Refusals.{voteRefusal, carryRefusal}
@@ -41,7 +42,7 @@ pub record Carries (st : State) (t from to : ℕ) : Type 0 where
   pub lacks : holdsVoteOf st t to from ≡ false
 
 pub carries : (st : State) (t from to : ℕ) → carryRefusal st t from to ≡ 0 → Carries st t from to
-unfolding carryRefusal voteRefusal
+unfolding carryRefusalIn voteRefusalIn
 carries st t from to h =
     let T = st .tables in
     let n = siteCount T in
@@ -122,7 +123,7 @@ carry-step st t from to g z e =
 pub carry-back : (st : State) (t from to : ℕ) → Taken (st .tables) → Sound st
     → local (st .tables) t ≡ false → (from ≡ to → ⊥) → 0 < viewOf (st .tables) st .cast from t → concerns (st .tables) t to ≡ true → viewOf (st .tables) st .held t from to ≡ false
     → carryRefusal st t from to ≡ 0
-unfolding carryRefusal voteRefusal
+unfolding carryRefusalIn voteRefusalIn
 carry-back st t from to g w lo d c co h =
     let T = st .tables in
     let i = inv-of T st w in

@@ -21,6 +21,7 @@ use Rattle.steps.specs.Kinds.{version}
 use Rattle.steps.specs.declared.Version.{Version}
 use Rattle.rules.specs.Queue.{submittedIn}
 use Rattle.rules.specs.Votes.{roomIn}
+use Rattle.refusals.specs.Refusals.{closeRefusalIn, verdictRefusalIn}
 use Rattle.machine.specs.Parts.{versionAt, valueAt, deliveredAt, closedAt, withClosed}
 use Rattle.machine.specs.Rules.{atHead, verdict, roomAt}
 use Rattle.machine.specs.Usable.{usable}
@@ -90,7 +91,7 @@ pub record Closes (st : State) (t s : ℕ) : Type 0 where
   pub head : verdict st t s ≡ 1 → atHead st t s ≡ true
 
 closing : (st : State) (t s : ℕ) → closeRefusal st t s ≡ 0 → Closes st t s
-unfolding closeRefusal verdictRefusal
+unfolding closeRefusalIn verdictRefusalIn
 closing st t s h =
     let c = verdict st t s in
     let (a, h1) = passed 20 (omega arith) (leb (st .tables .txns) t) _ h in
@@ -235,7 +236,7 @@ close-step st t s g z w e =
 
 pub close-back : (st : State) (t s c : ℕ) → usable st ≡ true → Taken (st .tables) → Sound st
     → Closable (tableOf (st .tables)) (rulesOf (st .tables)) (viewOf (st .tables) st) s t c → closeRefusal st t s ≡ 0
-unfolding closeRefusal verdictRefusal
+unfolding closeRefusalIn verdictRefusalIn
 close-back st t s c ok g w h = rw (
   lt-leb (st .tables .txns) t txn,
   lt-leb (siteCount (st .tables)) s site,

@@ -18,6 +18,7 @@ use Rattle.steps.specs.Kinds.{version}
 use Rattle.rules.specs.Cells.{placeIn, nobody}
 use Rattle.rules.specs.Queue.{waits, nextIn, blockedIn, submittedIn}
 use Rattle.rules.specs.Votes.{certifyIn, current}
+use Rattle.refusals.specs.Refusals.{deliverRefusalIn}
 use Rattle.machine.specs.Parts.{placeOf, deliveredAt, closedAt, withDelivery}
 use Rattle.machine.specs.Rules.{queued, nextAt, blocked, voteOf}
 use Rattle.machine.specs.Refusals.{deliverRefusal}
@@ -89,7 +90,7 @@ abbrev pending : State → ℕ → ℕ → Bool
 pending st s t = waits (placeOf st t) (deliveredAt st t s) (concerns (st .tables) t s)
 
 next-is : (st : State) (s : ℕ) → Taken (st .tables) → deliverRefusal st s ≡ 0 → Next st s (nextAt st s) × (blocked st (nextAt st s) s ≡ false)
-unfolding deliverRefusal nextIn
+unfolding deliverRefusalIn nextIn
 next-is st s g h =
     let T = st .tables in
     let (a, h1) = passed 21 (omega arith) (leb (siteCount T) s) _ h in
@@ -199,7 +200,7 @@ deliver-step st s g z w h =
 pub deliver-back : (st : State) (s t : ℕ) → Taken (st .tables) → Sound st
     → Offered (tableOf (st .tables)) (viewOf (st .tables) st) s t → ((u : ℕ) → Queued (viewOf (st .tables) st) s u → Conflict (tableOf (st .tables)) t u → ⊥)
     → deliverRefusal st s ≡ 0
-unfolding deliverRefusal
+unfolding deliverRefusalIn
 deliver-back st s t g w o a = rw (lt-leb (siteCount (st .tables)) s site, is-t, ne-eqb t nobody (λ e. omega (arith, g .txns, txn)), free)
   where
     T : Tables

@@ -32,7 +32,7 @@ use Rattle.machine.specs.Effects.{giving}
 use Rattle.machine.specs.Steps.{done}
 use Rattle.machine.specs.declared.State.{State}
 use Rattle.machine.specs.declared.Stepped.{Stepped}
-use Rattle.machine.specs.declared.Todo.the-variants as todo
+use Rattle.search.specs.declared.Todo.the-variants as todo
 use Rattle.machine.proofs.Laws.{usable-has}
 use Rattle.machine.proofs.Settle.{after-usable}
 use Rattle.demands.specs.Protocol.{Writes, Holds, Only, Votes, Aborts, MayCommit, Permits, NoClose, NoDeliver, NoCarry, SameStores, Stores, SameReads, SameQueues, SameVotes, DoesRead, Submitted, none, placed, other, DoesSubmit, DoesDeliver, DoesCarry, DoesClose, First, close, deliver, carry, Does, Settling, over, go, Protocol}

@@ -32,7 +32,7 @@ use Rattle.machine.specs.Refusals.{refusal}
 use Rattle.machine.specs.Effects.{readDone, submitDone, deliverDone, carryDone, committed, closeDone}
 use Rattle.machine.specs.Steps.{done}
 use Rattle.machine.specs.declared.State.{State}
-use Rattle.machine.specs.declared.Todo.the-variants as todo
+use Rattle.search.specs.declared.Todo.the-variants as todo
 use Rattle.machine.proofs.Laws.{Usable, usable-has}
 use Rattle.demands.specs.Protocol.{Holds, Writes, Only, MayDeliver, MayCommit, Aborts, Permits, Stores, DoesRead, Submitted, none, placed, other, DoesSubmit, DoesDeliver, DoesCarry, DoesClose, Does}
 use Rattle.demands.proofs.Tables.{apart}

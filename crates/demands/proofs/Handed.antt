@@ -18,8 +18,8 @@ use Rattle.machine.specs.Effects.{readDone, submitDone, deliverDone, carryDone,
 use Rattle.machine.specs.Settle.{after}
 use Rattle.machine.specs.Fresh.{startOf}
 use Rattle.machine.specs.declared.State.{State}
-use Rattle.machine.specs.declared.Todo.{Todo}
-use Rattle.machine.specs.declared.Todo.the-variants.{Close, Deliver, Carry, Nothing}
+use Rattle.search.specs.declared.Todo.{Todo}
+use Rattle.search.specs.declared.Todo.the-variants.{Close, Deliver, Carry, Nothing}
 use Rattle.machine.proofs.Settle.{Accepted}
 use Rattle.onecopy.proofs.Base.{at2, look2}
 use Rattle.demands.proofs.Tables.{Taken}

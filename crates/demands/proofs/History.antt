@@ -22,8 +22,8 @@ use Rattle.machine.specs.Settle.{after, settleDone}
 use Rattle.machine.specs.Steps.{refused, done, decided, stepOf}
 use Rattle.machine.specs.Fresh.{startOf, freshOf}
 use Rattle.machine.specs.declared.State.{State}
-use Rattle.machine.specs.declared.Todo.{Todo}
-use Rattle.machine.specs.declared.Todo.the-variants as todo
+use Rattle.search.specs.declared.Todo.{Todo}
+use Rattle.search.specs.declared.Todo.the-variants as todo
 use Rattle.machine.proofs.Settle.{Accepted}
 use Rattle.listing.specs.Run.{endOf}
 use Rattle.onecopy.proofs.Base.{sum-zero}

@@ -14,6 +14,7 @@ use Rattle.tables.specs.declared.Tables.{Tables}
 use Rattle.steps.specs.declared.Step.{Step}
 use Rattle.steps.specs.declared.Step.the-variants.{Read, Submit, Deliver, Carry, Close, Settle}
 use Rattle.rules.specs.Cells.{nobody}
+use Rattle.refusals.specs.Refusals.{carryRefusalIn, closeRefusalIn, deliverRefusalIn, readRefusalIn, submitRefusalIn, verdictRefusalIn, voteRefusalIn}
 use Rattle.machine.specs.Parts.{placeOf, recordedOf, closedAt, castBy}
 use Rattle.machine.specs.Rules.{atHead, nextAt, verdict, roomAt}
 use Rattle.machine.specs.Usable.{usable}
@@ -60,7 +61,7 @@ module _ (st : State) where
   -- ---- step by step
 
   read-permits : (t i s : ℕ) → (readRefusal st t i s ≡ 0) ↔ Permits st (Read t i s)
-  unfolding readRefusal
+  unfolding readRefusalIn
   read-permits t i s = Iff·trans
       (unless 20 (omega arith) (among t (T .txns))
       (unless 22 (omega arith) (among i (readCount T t))
@@ -70,7 +71,7 @@ module _ (st : State) where
       (λ x. (x .0, x .1 .0, x .1 .1 .0, x .1 .1 .1 .0, x .1 .1 .1 .1), λ x. (x .0, (x .1, (x .2, (x .3, x .4)))))
 
   submit-permits : (t : ℕ) → (submitRefusal st t ≡ 0) ↔ Permits st (Submit t)
-  unfolding submitRefusal
+  unfolding submitRefusalIn
   submit-permits t = Iff·trans
       (unless 20 (omega arith) (among t (T .txns))
       (unless 24 (omega arith) (is-zero (placeOf st t))
@@ -78,7 +79,7 @@ module _ (st : State) where
       (λ x. (x .0, x .1 .0, x .1 .1), λ x. (x .0, (x .1, x .2)))
 
   pub deliver-permits : T .txns ≤ 128 → (s : ℕ) → (deliverRefusal st s ≡ 0) ↔ Permits st (Deliver s)
-  unfolding deliverRefusal
+  unfolding deliverRefusalIn
   deliver-permits b s = Iff·trans
       (unless 21 (omega arith) (among s (siteCount T))
       (unless 26 (omega arith) (eqb-false (nextAt st s) nobody, ne-eqb (nextAt st s) nobody)
@@ -88,14 +89,14 @@ module _ (st : State) where
       )
 
   vote-permits : (t from to : ℕ) → (voteRefusal st t from to ≡ 0) ↔ ((Local T t → ⊥) × (from ≡ to → ⊥) × (0 < castBy st t from) × (HasVote st to t from → ⊥))
-  unfolding voteRefusal
+  unfolding voteRefusalIn
   vote-permits t from to = Iff·trans
       (unless 28 (omega arith) (neither (fails (local-says T t)) (neither (eqb-false from to, ne-eqb from to) (is-some (castBy st t from))))
       (last 24 (omega arith) (fails (holds-says st to t from))))
       (λ x. (x .0 .0, x .0 .1 .0, x .0 .1 .1, x .1), λ x. ((x .0, (x .1, x .2)), x .3))
 
   pub carry-permits : (t from to : ℕ) → (carryRefusal st t from to ≡ 0) ↔ Permits st (Carry t from to)
-  unfolding carryRefusal
+  unfolding carryRefusalIn
   carry-permits t from to = Iff·trans
       (unless 20 (omega arith) (among t (T .txns))
       (unless 21 (omega arith) (neither (among from (siteCount T)) (among to (siteCount T)))
@@ -105,7 +106,7 @@ module _ (st : State) where
       )
 
   verdict-permits : (t s : ℕ) → (verdictRefusal st t s ≡ 0) ↔ (MayCommit st s t ⊎ Aborts st s t)
-  unfolding verdictRefusal
+  unfolding verdictRefusalIn
   verdict-permits t s = (λ h. to (verdict-some st s t) h, from)
     where
       open-verdict : ℕ → Bool → Bool → ℕ
@@ -128,7 +129,7 @@ module _ (st : State) where
       from (inr x) = rw (aborts-says st s t .1 x)
 
   pub close-permits : (t s : ℕ) → (closeRefusal st t s ≡ 0) ↔ Permits st (Close t s)
-  unfolding closeRefusal
+  unfolding closeRefusalIn
   close-permits t s = Iff·trans
       (unless 20 (omega arith) (among t (T .txns))
       (unless 21 (omega arith) (among s (siteCount T))

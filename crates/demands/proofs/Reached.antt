@@ -19,7 +19,7 @@ use Rattle.machine.specs.Steps.{refused, done, decided, stepOf}
 use Rattle.machine.specs.Fresh.{freshOf}
 use Rattle.machine.specs.declared.State.{State}
 use Rattle.machine.specs.declared.Stepped.{Stepped}
-use Rattle.machine.specs.declared.Todo.the-variants as todo
+use Rattle.search.specs.declared.Todo.the-variants as todo
 use Rattle.machine.proofs.Settle as Settle
 use Rattle.machine.proofs.Kept.{step-usable}
 use Rattle.listing.specs.Run.{endOf}

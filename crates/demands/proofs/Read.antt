@@ -15,6 +15,7 @@ use Rattle.tables.specs.Sites.{siteCount, holds}
 use Rattle.tables.specs.declared.Tables.{Tables}
 use Rattle.steps.specs.Kinds.{version}
 use Rattle.rules.specs.Queue.{submittedIn}
+use Rattle.refusals.specs.Refusals.{readRefusalIn}
 use Rattle.machine.specs.Parts.{versionAt, valueAt, recordedOf}
 use Rattle.machine.specs.Refusals.{readRefusal}
 use Rattle.machine.specs.Effects.{readDone}
@@ -37,7 +38,7 @@ pub record Readable (st : State) (t i s : ℕ) : Type 0 where
   pub fresh : recordedOf st t i ≡ false
 
 readable : (st : State) (t i s : ℕ) → readRefusal st t i s ≡ 0 → Readable st t i s
-unfolding readRefusal
+unfolding readRefusalIn
 readable st t i s h =
     let T = st .tables in
     let (a, h1) = passed 20 (omega arith) (leb (T .txns) t) _ h in

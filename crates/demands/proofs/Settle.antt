@@ -12,8 +12,8 @@ use Rattle.machine.specs.Usable.{usable}
 use Rattle.machine.specs.Settle.{todo, after, most, settleFor, settleDone}
 use Rattle.machine.specs.declared.State.{State}
 use Rattle.machine.specs.declared.Stepped.{Stepped}
-use Rattle.machine.specs.declared.Todo.{Todo}
-use Rattle.machine.specs.declared.Todo.the-variants.{Close, Deliver, Carry, Nothing}
+use Rattle.search.specs.declared.Todo.{Todo}
+use Rattle.search.specs.declared.Todo.the-variants.{Close, Deliver, Carry, Nothing}
 use Rattle.machine.proofs.Settle.{Accepted, todo-accepted, settle-stops, settle-goes, settle-ends}
 use Rattle.machine.proofs.Ends.{Finished, settle-finishes}
 use Rattle.onecopy.proofs.Rules as Rules

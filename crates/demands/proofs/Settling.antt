@@ -13,14 +13,16 @@ use Rattle.steps.specs.declared.Step.{Step}
 use Rattle.steps.specs.declared.Step.the-variants as step
 use Rattle.steps.specs.declared.Answer.the-variants as answer
 use Rattle.rules.specs.Cells.{placeIn, nobody}
+use Rattle.search.specs.Search.{closesFirstIn, firstCarriedIn, firstClosingIn, firstDeliveringIn, firstFromIn, firstToIn, todoIn}
+use Rattle.search.specs.Search.{nowhere}
 use Rattle.machine.specs.Usable.{usable}
 use Rattle.machine.specs.Refusals.{closeRefusal, deliverRefusal, carryRefusal, refusal}
-use Rattle.machine.specs.Settle.{nowhere, closesFirst, firstClosing, firstDelivering, firstTo, firstFrom, firstCarried, todo, after, most, settleFor, settleDone}
+use Rattle.machine.specs.Settle.{closesFirst, firstClosing, firstDelivering, firstTo, firstFrom, firstCarried, todo, after, most, settleFor, settleDone}
 use Rattle.machine.specs.Steps.{done}
 use Rattle.machine.specs.declared.State.{State}
 use Rattle.machine.specs.declared.Stepped.{Stepped}
-use Rattle.machine.specs.declared.Todo.{Todo}
-use Rattle.machine.specs.declared.Todo.the-variants.{Close, Deliver, Carry, Nothing}
+use Rattle.search.specs.declared.Todo.{Todo}
+use Rattle.search.specs.declared.Todo.the-variants.{Close, Deliver, Carry, Nothing}
 use Rattle.machine.proofs.Laws.{Usable, usable-has}
 use Rattle.machine.proofs.Settle.{Accepted, todo-accepted, after-usable, settle-stops, settle-goes, settle-ends}
 use Rattle.machine.proofs.Ends.{Finished, settle-finishes}
@@ -66,11 +68,11 @@ module _ (st : State) (u : Usable st) where
   ClosesAt s = (t : ℕ) × (t < m) × Permits st (step.Close t s)
 
   closes-says : (s : ℕ) → Says (ltb (closesFirst st s) nobody) (ClosesAt s)
-  unfolding closesFirst
+  unfolding closesFirstIn
   closes-says s = found-says m (placeIn (st .places)) (λ t. eqb (closeRefusal st t s) 0) nobody (λ t l. close-says s t) (u .txns)
 
   closing-says : Says (ltb (firstClosing st) nowhere) ((s : ℕ) × (s < n) × ClosesAt s)
-  unfolding firstClosing
+  unfolding firstClosingIn
   closing-says = found-says n (λ i. 0) (λ s. ltb (closesFirst st s) nobody) nowhere (λ s l. closes-says s) (u .sites)
 
   first-close : ltb (firstClosing st) nowhere ≡ true → First st (step.Close (closesFirst st (firstClosing st)) (firstClosing st))
@@ -82,10 +84,10 @@ module _ (st : State) (u : Usable st) where
       (λ u b p. g .none u (p .2 .0) p b)
     where
       site : Foremost n (λ i. 0) ClosesAt (firstClosing st)
-      site = unfold firstClosing in finds n (λ i. 0) (λ s. ltb (closesFirst st s) nobody) nowhere (λ s l. closes-says s) (u .sites) (hit (firstClosing st) nowhere e)
+      site = unfold firstClosingIn in finds n (λ i. 0) (λ s. ltb (closesFirst st s) nobody) nowhere (λ s l. closes-says s) (u .sites) (hit (firstClosing st) nowhere e)
 
       txn : (s : ℕ) → ltb (closesFirst st s) nobody ≡ true → Foremost m (placeIn (st .places)) (λ t. Permits st (step.Close t s)) (closesFirst st s)
-      txn s e = unfold closesFirst in finds m (placeIn (st .places)) (λ t. eqb (closeRefusal st t s) 0) nobody (λ t l. close-says s t) (u .txns) (hit (closesFirst st s) nobody e)
+      txn s e = unfold closesFirstIn in finds m (placeIn (st .places)) (λ t. eqb (closeRefusal st t s) 0) nobody (λ t l. close-says s t) (u .txns) (hit (closesFirst st s) nobody e)
 
   no-close : ltb (firstClosing st) nowhere ≡ false → NoClose st
   no-close e t s p = fails closing-says .0 e (s, p .0, (t, p .2 .0, p))
@@ -98,10 +100,10 @@ module _ (st : State) (u : Usable st) where
   first-deliver c e = Protocol.deliver (firstDelivering st) c (site .has) (λ r l p. site .none r (p .0) p (inr (refl, l)))
     where
       site : Foremost n (λ i. 0) (λ s. Permits st (step.Deliver s)) (firstDelivering st)
-      site = unfold firstDelivering in finds n (λ i. 0) (λ s. eqb (deliverRefusal st s) 0) nowhere (λ s l. deliver-says s) (u .sites) (hit (firstDelivering st) nowhere e)
+      site = unfold firstDeliveringIn in finds n (λ i. 0) (λ s. eqb (deliverRefusal st s) 0) nowhere (λ s l. deliver-says s) (u .sites) (hit (firstDelivering st) nowhere e)
 
   no-deliver : ltb (firstDelivering st) nowhere ≡ false → NoDeliver st
-  unfolding firstDelivering
+  unfolding firstDeliveringIn
   no-deliver e s p = fails (found-says n (λ i. 0) (λ s. eqb (deliverRefusal st s) 0) nowhere (λ s l. deliver-says s) (u .sites)) .0 e (s, p .0, p)
 
   -- a CARRY of t's vote from a site, of t's votes, and of any
@@ -115,11 +117,11 @@ module _ (st : State) (u : Usable st) where
   Carries t = (from : ℕ) × (from < n) × CarriesFrom t from
 
   from-says : (t from : ℕ) → Says (ltb (firstTo st t from) nowhere) (CarriesFrom t from)
-  unfolding firstTo
+  unfolding firstToIn
   from-says t from = found-says n (λ i. 0) (λ to. eqb (carryRefusal st t from to) 0) nowhere (λ to l. carry-says t from to) (u .sites)
 
   carries-says : (t : ℕ) → Says (ltb (firstFrom st t) nowhere) (Carries t)
-  unfolding firstFrom
+  unfolding firstFromIn
   carries-says t = found-says n (λ i. 0) (λ from. ltb (firstTo st t from) nowhere) nowhere (λ from l. from-says t from) (u .sites)
 
   first-carry : NoClose st → NoDeliver st → ltb (firstCarried st) nobody ≡ true
@@ -140,22 +142,22 @@ module _ (st : State) (u : Usable st) where
       ])
     where
       txn : Foremost m (placeIn (st .places)) Carries (firstCarried st)
-      txn = unfold firstCarried in finds m (placeIn (st .places)) (λ t. ltb (firstFrom st t) nowhere) nobody (λ t l. carries-says t) (u .txns) (hit (firstCarried st) nobody e)
+      txn = unfold firstCarriedIn in finds m (placeIn (st .places)) (λ t. ltb (firstFrom st t) nowhere) nobody (λ t l. carries-says t) (u .txns) (hit (firstCarried st) nobody e)
 
       giver : (t : ℕ) → ltb (firstFrom st t) nowhere ≡ true → Foremost n (λ i. 0) (CarriesFrom t) (firstFrom st t)
-      giver t e = unfold firstFrom in finds n (λ i. 0) (λ from. ltb (firstTo st t from) nowhere) nowhere (λ from l. from-says t from) (u .sites) (hit (firstFrom st t) nowhere e)
+      giver t e = unfold firstFromIn in finds n (λ i. 0) (λ from. ltb (firstTo st t from) nowhere) nowhere (λ from l. from-says t from) (u .sites) (hit (firstFrom st t) nowhere e)
 
       taker : (t from : ℕ) → ltb (firstTo st t from) nowhere ≡ true → Foremost n (λ i. 0) (λ to. Permits st (step.Carry t from to)) (firstTo st t from)
-      taker t from e = unfold firstTo in finds n (λ i. 0) (λ to. eqb (carryRefusal st t from to) 0) nowhere (λ to l. carry-says t from to) (u .sites) (hit (firstTo st t from) nowhere e)
+      taker t from e = unfold firstToIn in finds n (λ i. 0) (λ to. eqb (carryRefusal st t from to) 0) nowhere (λ to l. carry-says t from to) (u .sites) (hit (firstTo st t from) nowhere e)
 
   no-carry : ltb (firstCarried st) nobody ≡ false → NoCarry st
-  unfolding firstCarried
+  unfolding firstCarriedIn
   no-carry e t from to p = fails (found-says m (placeIn (st .places)) (λ t. ltb (firstFrom st t) nowhere) nobody (λ t l. carries-says t) (u .txns)) .0 e
       (t, p .0, (from, p .1, (to, p .2, p)))
 
   -- what SETTLE does next is the first permitted; it stops where none is
   todo-first : Foretold st (todo st)
-  unfolding todo
+  unfolding todoIn
   todo-first = closing (ltb (firstClosing st) nowhere) refl
     where
       carry : Todo

@@ -17,6 +17,7 @@ use Rattle.steps.specs.declared.Step.{Step}
 use Rattle.steps.specs.declared.Step.the-variants.{Read, Submit, Deliver, Carry, Close, Settle}
 use Rattle.steps.specs.declared.Answer.{Answer}
 use Rattle.steps.specs.declared.Answer.the-variants as answer
+use Rattle.refusals.specs.Refusals.{carryRefusalIn, closeRefusalIn, deliverRefusalIn, readRefusalIn, submitRefusalIn, verdictRefusalIn, voteRefusalIn}
 use Rattle.machine.specs.Parts.{placeOf, recordedOf, deliveredAt, closedAt, castBy}
 use Rattle.machine.specs.Rules.{atHead, nextAt, blocked, holdsVoteOf, verdict, roomAt}
 use Rattle.machine.specs.Refusals.{readRefusal, submitRefusal, deliverRefusal, voteRefusal, carryRefusal, verdictRefusal, closeRefusal, refusal}
@@ -24,8 +25,8 @@ use Rattle.machine.specs.Effects.{readDone, submitDone, deliverDone, carryDone,
 use Rattle.machine.specs.Settle.{most, todo, after, settleFor, settleDone}
 use Rattle.machine.specs.Steps.{refused, done, decided, stepOf}
 use Rattle.machine.specs.declared.State.{State}
-use Rattle.machine.specs.declared.Todo.{Todo}
-use Rattle.machine.specs.declared.Todo.the-variants as todo
+use Rattle.search.specs.declared.Todo.{Todo}
+use Rattle.search.specs.declared.Todo.the-variants as todo
 use Rattle.machine.proofs.Refused.{refused-keeps}
 use Rattle.records.proofs.Laws.{apart}
 use Rattle.demands.specs.Steps.{listedFor, Demand1Step}
@@ -42,7 +43,7 @@ taken : (l : List ℕ) → (_≡_ {A = ℕ} 0 0 → ⊥) → OneOf l 0
 taken l h = absurd (h refl)
 
 refusal-listed : (st : State) (x : Step) → (refusal st x ≡ 0 → ⊥) → OneOf (listedFor x) (refusal st x)
-unfolding refusal readRefusal submitRefusal deliverRefusal voteRefusal carryRefusal verdictRefusal closeRefusal
+unfolding refusal readRefusalIn submitRefusalIn deliverRefusalIn voteRefusalIn carryRefusalIn verdictRefusalIn closeRefusalIn
 refusal-listed st (Read t i s) =
     let T = st .tables in
     let l = listedFor (Read t i s) in

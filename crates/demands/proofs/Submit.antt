@@ -20,6 +20,7 @@ use Rattle.steps.specs.Kinds.{place}
 use Rattle.steps.specs.declared.Place.{Place}
 use Rattle.rules.specs.Cells.{placeIn, nobody}
 use Rattle.rules.specs.Queue.{submittedIn}
+use Rattle.refusals.specs.Refusals.{submitRefusalIn}
 use Rattle.machine.specs.Parts.{placeOf, recordedOf}
 use Rattle.machine.specs.Rules.{submitted}
 use Rattle.machine.specs.Refusals.{submitRefusal}
@@ -96,7 +97,7 @@ pub record Ready (st : State) (t : ℕ) : Type 0 where
   pub reads : (i : ℕ) → i < readCount (st .tables) t → recordedOf st t i ≡ true
 
 ready : (st : State) (t : ℕ) → submitRefusal st t ≡ 0 → Ready st t
-unfolding submitRefusal
+unfolding submitRefusalIn
 ready st t h =
     let T = st .tables in
     let (a, h1) = passed 20 (omega arith) (leb (T .txns) t) _ h in

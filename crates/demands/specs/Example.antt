@@ -16,10 +16,12 @@ use Rattle.steps.specs.declared.Step.the-variants.{Read, Submit, Deliver, Settl
 use Rattle.rules.specs.Queue.{headIn, blockedIn, nextIn, submittedIn}
 use Rattle.rules.specs.Votes.{certifyIn, coversKey, coveredIn, allYesIn, verdictBy, roomIn}
 use Rattle.rules.specs.Fit.{countsFit, rowFits, txnFits, txnsFit, placesFit}
+use Rattle.refusals.specs.Refusals.{carryRefusalIn, closeRefusalIn, deliverRefusalIn, readRefusalIn, submitRefusalIn, verdictRefusalIn, voteRefusalIn}
+use Rattle.search.specs.Search.{closesFirstIn, firstCarriedIn, firstClosingIn, firstDeliveringIn, firstFromIn, firstToIn, todoIn}
 use Rattle.machine.specs.Usable.{usable}
-use Rattle.machine.specs.Refusals.{readRefusal, submitRefusal, deliverRefusal, voteRefusal, carryRefusal, verdictRefusal, closeRefusal, refusal}
+use Rattle.machine.specs.Refusals.{refusal}
 use Rattle.machine.specs.Effects.{readDone, submitDone, deliverDone, carryDone, stored, committed, closeDone}
-use Rattle.machine.specs.Settle.{firstClosing, closesFirst, firstDelivering, firstCarried, firstFrom, firstTo, todo, settleFor, settleDone}
+use Rattle.machine.specs.Settle.{settleFor, settleDone}
 use Rattle.machine.specs.Steps.{done, decided, stepOf}
 use Rattle.machine.specs.Fresh.{startOf, freshOf}
 use Rattle.listing.specs.Run.{endOf}
@@ -57,8 +59,8 @@ at-the-end : let st = endOf (freshOf tables .state) steps in
     (copyOf st 3 0 .0 ∷ copyOf st 3 0 .1 ∷ copyOf st 3 1 .0 ∷ copyOf st 3 1 .1 ∷ stepsInAll st ∷ stepsDone st ∷ stepsTaken (freshOf tables .state) steps ∷ [])
     (1 ∷ 100 ∷ 2 ∷ 7 ∷ 10 ∷ 10 ∷ 10 ∷ [])
 unfolding endOf stepsOn doneOn stepsTaken slot whoseIn run chosen
-    freshOf startOf done decided stepOf firstClosing closesFirst firstDelivering firstCarried firstFrom firstTo todo settleFor settleDone readDone submitDone deliverDone carryDone stored committed closeDone
-    readRefusal submitRefusal deliverRefusal voteRefusal carryRefusal verdictRefusal closeRefusal refusal countsFit rowFits txnFits txnsFit placesFit usable headIn blockedIn nextIn submittedIn certifyIn coversKey coveredIn allYesIn verdictBy roomIn
+    freshOf startOf done decided stepOf firstClosingIn closesFirstIn firstDeliveringIn firstCarriedIn firstFromIn firstToIn todoIn settleFor settleDone readDone submitDone deliverDone carryDone stored committed closeDone
+    readRefusalIn submitRefusalIn deliverRefusalIn voteRefusalIn carryRefusalIn verdictRefusalIn closeRefusalIn refusal countsFit rowFits txnFits txnsFit placesFit usable headIn blockedIn nextIn submittedIn certifyIn coversKey coveredIn allYesIn verdictBy roomIn
     inRow twice present meets conflictIn someIn allIn touches inside local keysFrom keysRefusal sizeRefusal countRefusal keyRefusal txnRefusal someGroup endRefusal judge noTables
     member within adding anyBelow allBelow sumBelow firstBelow firstOf listFrom
 at-the-end = refl

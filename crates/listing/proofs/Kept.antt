@@ -24,8 +24,8 @@ use Rattle.machine.specs.Settle.{todo, after, settleFor, settleDone, most}
 use Rattle.machine.specs.Steps.{refused, done, decided, stepOf}
 use Rattle.machine.specs.Fresh.{startOf, freshOf}
 use Rattle.machine.specs.declared.State.{State}
-use Rattle.machine.specs.declared.Todo.{Todo}
-use Rattle.machine.specs.declared.Todo.the-variants as todo
+use Rattle.search.specs.declared.Todo.{Todo}
+use Rattle.search.specs.declared.Todo.the-variants as todo
 use Rattle.machine.proofs.Kept.{step-usable, fresh-usable}
 use Rattle.listing.specs.Run.{endOf}
 

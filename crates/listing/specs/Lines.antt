@@ -8,7 +8,7 @@ use Rattle.bounded.specs.Bounded.{leastBelow}
 use Rattle.keys.specs.Keys.{member}
 use Rattle.tables.specs.Sites.{siteCount, siteKeys}
 use Rattle.rules.specs.Cells.{placeIn, cell, versionIn}
-use Rattle.machine.specs.Settle.{nowhere}
+use Rattle.search.specs.Search.{nowhere}
 use Rattle.steps.specs.Answers.{numbersOf}
 use Rattle.machine.specs.declared.State.{State}
 use Rattle.steps.specs.declared.Answer.{Answer}

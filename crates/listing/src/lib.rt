@@ -122,15 +122,7 @@ fn put_txns(
 }
 
 // ITEM, site, key, version, value, where key k is in the set m; else nothing.
-fn put_item(
-    out: &mut [u8],
-    at: usize,
-    m: u64,
-    s: u32,
-    k: u8,
-    v: u32,
-    x: u32,
-) -> usize
+fn put_item(out: &mut [u8], at: usize, m: u64, s: u32, k: u8, v: u32, x: u32) -> usize
     requires { ⌜ at + 49 < 2 ^ 64 ⌝ }
     ensures { λ r. ⌜ Wrote (now (out .entry)) at (now (out .exit)) r (cond (member m k) (lineOf itemWord (s ∷ k ∷ v ∷ x ∷ [])) []) ⌝ }
     ensures { λ r. ⌜ r ≤ at + 49 ⌝ }

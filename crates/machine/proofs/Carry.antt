@@ -1,42 +1,32 @@
 -- What an accepted DELIVER or CARRY says of its sites and its transaction.
 -- Assumes nothing.
-use Prim.Native.Nat.{ℕ, _≤_, _<_}
+use Prim.Native.Nat.{ℕ, _<_}
 use mathlib.Core.Path.{_≡_}
 use mathlib.Core.Bool.{true, false, _||_, not}
-use mathlib.Core.Logic.{inl, inr}
 use native.Mathlib.Omega.{arith}
 use lib.Dec.{leb, eqb}
 use borrow.Author.Tests.{leb-false, eqb-false}
 use Rattle.bounded.proofs.Truth.{or-false, passed}
-use Rattle.bounded.proofs.Laws.{first-is}
 use Rattle.keys.specs.Keys.{member}
 use Rattle.tables.specs.Sites.{siteCount}
 use Rattle.tables.specs.Concern.{concerns, local}
-use Rattle.rules.specs.Cells.{placeIn, nobody}
-use Rattle.rules.specs.Queue.{waits, nextIn}
-use Rattle.machine.specs.Parts.{placeOf, deliveredAt, castBy, carriedTo}
+use Rattle.rules.specs.Cells.{nobody}
+use Rattle.refusals.specs.Refusals.{deliverRefusalIn, voteRefusalIn, carryRefusalIn}
+use Rattle.refusals.proofs.Next.{next-low}
+use Rattle.machine.specs.Parts.{castBy, carriedTo}
 use Rattle.machine.specs.Rules.{nextAt, holdsVoteOf}
 use Rattle.machine.specs.Usable.{usable}
-use Rattle.machine.specs.Refusals.{deliverRefusal, voteRefusal, carryRefusal}
+use Rattle.machine.specs.Refusals.{deliverRefusal, carryRefusal}
 use Rattle.machine.proofs.Laws.{usable-has}
 use Rattle.machine.specs.declared.State.{State}
-
--- the next to deliver, where there is one, is a transaction
-pub next-low : (st : State) (s : ℕ) → st .tables .txns ≤ 128 → (nextAt st s ≡ 128 → ⊥) → nextAt st s < st .tables .txns
-unfolding nextIn
-next-low st s l d =
-    elim (first-is (st .tables .txns) (placeIn (st .places)) (λ t. waits (placeOf st t) (deliveredAt st t s) (concerns (st .tables) t s)) nobody l) [
-      | inl f ↦ f .low
-      | inr n ↦ absurd (d (n .0))
-    ]
 
 -- DELIVER accepted: s is a site, and what it delivers a transaction
 pub deliver-has : (st : State) (s : ℕ) → usable st ≡ true → deliverRefusal st s ≡ 0
     → (s < siteCount (st .tables)) × (nextAt st s < st .tables .txns)
-unfolding deliverRefusal
+unfolding deliverRefusalIn
 deliver-has st s u h =
     let (a, h1) = passed 21 (omega arith) (leb (siteCount (st .tables)) s) _ h in
-    (leb-false _ _ a, next-low st s (usable-has st u .txns) (eqb-false _ _ (passed 26 (omega arith) (eqb (nextAt st s) nobody) _ h1 .0)))
+    (leb-false _ _ a, next-low (st .tables) (st .places) (st .delivered) s (usable-has st u .txns) (eqb-false _ _ (passed 26 (omega arith) (eqb (nextAt st s) nobody) _ h1 .0)))
 
 -- CARRY accepted: t is a transaction, from and to are two sites, and to has no vote of from
 pub record Carries (st : State) (t from to : ℕ) : Type 0 where
@@ -47,7 +37,7 @@ pub record Carries (st : State) (t from to : ℕ) : Type 0 where
   pub lacks : member (carriedTo st t to) from ≡ false
 
 pub carry-has : (st : State) (t from to : ℕ) → carryRefusal st t from to ≡ 0 → Carries st t from to
-unfolding carryRefusal voteRefusal
+unfolding carryRefusalIn voteRefusalIn
 carry-has st t from to h =
     let n = siteCount (st .tables) in
     let (a, h1) = passed 20 (omega arith) (leb (st .tables .txns) t) _ h in

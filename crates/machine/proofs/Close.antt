@@ -16,9 +16,10 @@ use Rattle.tables.specs.Sites.{siteCount, holds}
 use Rattle.tables.specs.Concern.{concerns}
 use Rattle.tables.specs.declared.Tables.{Tables}
 use Rattle.rules.specs.Votes.{roomIn}
+use Rattle.refusals.specs.Refusals.{verdictRefusalIn, closeRefusalIn}
 use Rattle.machine.specs.Parts.{versionAt, deliveredAt, closedAt}
 use Rattle.machine.specs.Rules.{atHead, verdict, roomAt}
-use Rattle.machine.specs.Refusals.{verdictRefusal, closeRefusal}
+use Rattle.machine.specs.Refusals.{closeRefusal}
 use Rattle.machine.specs.Effects.{stored}
 use Rattle.machine.specs.declared.State.{State}
 
@@ -46,7 +47,7 @@ pub record Closes (st : State) (t s : ℕ) : Type 0 where
   pub room : verdict st t s ≡ 1 → roomAt st t s ≡ true
 
 pub close-has : (st : State) (t s : ℕ) → closeRefusal st t s ≡ 0 → Closes st t s
-unfolding closeRefusal verdictRefusal
+unfolding closeRefusalIn verdictRefusalIn
 close-has st t s h =
     let v = verdict st t s in
     let (a, h1) = passed 20 (omega arith) (leb (st .tables .txns) t) _ h in

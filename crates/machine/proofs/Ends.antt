@@ -25,10 +25,11 @@ use Rattle.machine.specs.Rules.{nextAt, verdict}
 use Rattle.machine.specs.Usable.{usable}
 use Rattle.machine.specs.Effects.{deliverDone, carryDone, committed, closeDone}
 use Rattle.machine.specs.Refusals.{deliverRefusal, carryRefusal, closeRefusal}
-use Rattle.machine.specs.Settle.{nowhere, closesFirst, firstClosing, firstDelivering, firstTo, firstFrom, firstCarried, todo, after, most, settleFor, settleDone}
+use Rattle.search.specs.Search.{nowhere, closesFirstIn, firstCarriedIn, firstClosingIn, firstDeliveringIn, firstFromIn, firstToIn, todoIn}
+use Rattle.machine.specs.Settle.{closesFirst, firstClosing, firstDelivering, firstTo, firstFrom, firstCarried, todo, after, most, settleFor, settleDone}
 use Rattle.machine.specs.declared.State.{State}
-use Rattle.machine.specs.declared.Todo.{Todo}
-use Rattle.machine.specs.declared.Todo.the-variants.{Close, Deliver, Carry, Nothing}
+use Rattle.search.specs.declared.Todo.{Todo}
+use Rattle.search.specs.declared.Todo.the-variants.{Close, Deliver, Carry, Nothing}
 use Rattle.machine.proofs.Laws.{usable-has}
 use Rattle.machine.proofs.Carry.{carry-has, deliver-has}
 use Rattle.machine.proofs.Close.{close-has}
@@ -191,7 +192,7 @@ pub record Finished (st : State) : Type 0 where
 -- where SETTLE has nothing to do
 searched : (st : State) → todo st ≡ Nothing
     → (ltb (firstClosing st) nowhere ≡ false) × (ltb (firstDelivering st) nowhere ≡ false) × (ltb (firstCarried st) nobody ≡ false)
-unfolding todo
+unfolding todoIn
 searched st = by (ltb (firstClosing st) nowhere) (ltb (firstDelivering st) nowhere) (ltb (firstCarried st) nobody)
   where
     carry : Todo
@@ -205,7 +206,7 @@ searched st = by (ltb (firstClosing st) nowhere) (ltb (firstDelivering st) nowhe
     by false false false e = (refl, refl, refl)
 
 pub nothing-left : (st : State) → usable st ≡ true → todo st ≡ Nothing → Finished st
-unfolding firstClosing closesFirst firstDelivering firstCarried firstFrom firstTo
+unfolding firstClosingIn closesFirstIn firstDeliveringIn firstCarriedIn firstFromIn firstToIn
 nothing-left st h e =
     let u = usable-has st h in
     let n = siteCount (st .tables) in

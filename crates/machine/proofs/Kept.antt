@@ -25,6 +25,7 @@ use Rattle.tables.specs.Judge.{keysRefusal, sizeRefusal, groupRefusal, countRef
 use Rattle.tables.specs.declared.Tables.{Tables}
 use Rattle.tables.proofs.Laws.{count-low, groups-low}
 use Rattle.rules.specs.Fit.{countsFit, rowFits, txnFits, txnsFit, placesFit}
+use Rattle.refusals.specs.Refusals.{submitRefusalIn}
 use Rattle.machine.specs.Parts.{placeOf}
 use Rattle.machine.specs.Usable.{usable}
 use Rattle.machine.specs.Refusals.{submitRefusal, refusal}
@@ -33,7 +34,7 @@ use Rattle.machine.specs.Settle.{most, settleDone}
 use Rattle.machine.specs.Fresh.{startOf}
 use Rattle.machine.specs.Steps.{refused, done, decided}
 use Rattle.machine.specs.declared.State.{State}
-use Rattle.machine.specs.declared.Todo.the-variants as todo
+use Rattle.search.specs.declared.Todo.the-variants as todo
 use Rattle.machine.proofs.Laws.{usable-has}
 use Rattle.machine.proofs.Settle.{after-usable}
 use Rattle.machine.proofs.Ends.{settle-usable}
@@ -71,7 +72,7 @@ place-fits places n t p l b h = all-put n (λ i. leb (placeIn (set places t (pla
 ])
 
 submit-usable : (st : State) (t : ℕ) → length (st .places) ≡ 128 → usable st ≡ true → submitRefusal st t ≡ 0 → usable (submitDone st t .next) ≡ true
-unfolding usable submitDone submitRefusal
+unfolding usable submitDone submitRefusalIn
 submit-usable st t z h e =
     let u = usable-has st h in
     let T = st .tables in

@@ -11,6 +11,7 @@ use Rattle.tables.specs.Lists.{rowAt, present, twice, readCount, writeCount}
 use Rattle.tables.specs.Sites.{sitesIn, siteCount}
 use Rattle.rules.specs.Cells.{placeIn}
 use Rattle.rules.specs.Queue.{Short}
+use Rattle.refusals.specs.Refusals.{Fits}
 use Rattle.rules.specs.Fit.{countsFit, rowFits, txnFits, txnsFit, placesFit}
 use mathlib.Core.List.{List}
 use Rattle.machine.specs.Parts.{placeOf}
@@ -70,3 +71,7 @@ usable-has st h =
     rows x t l =
         and-true (rowFits (st .tables .keys) (st .tables .reads) t (readCount (st .tables) t)) (rowFits (st .tables .keys) (st .tables .writes) t (writeCount (st .tables) t))
         (all-get (st .tables .txns) (txnFits (st .tables .keys) (st .tables .reads) (st .tables .nreads) (st .tables .writes) (st .tables .nwrites)) x t l)
+
+-- its counts are within their limits
+pub usable-fits : (st : State) → usable st ≡ true → Fits (st .tables)
+usable-fits st h = let u = usable-has st h in record { groups = u .groups; sites = u .sites; txns = u .txns; short = u .short }

@@ -17,8 +17,8 @@ use Rattle.machine.specs.Settle.{most, todo, after, settleFor, settleDon
 use Rattle.machine.specs.Steps.{refused, done, decided, stepOf}
 use Rattle.machine.specs.declared.State.{State}
 use Rattle.machine.specs.declared.Stepped.{Stepped}
-use Rattle.machine.specs.declared.Todo.{Todo}
-use Rattle.machine.specs.declared.Todo.the-variants.{Close, Deliver, Carry, Nothing}
+use Rattle.search.specs.declared.Todo.{Todo}
+use Rattle.search.specs.declared.Todo.the-variants.{Close, Deliver, Carry, Nothing}
 
 -- an answer that is no refusal
 abbrev Took : Answer → Type 0

@@ -21,14 +21,15 @@ use Rattle.machine.specs.Rules.{verdict}
 use Rattle.machine.specs.Usable.{usable}
 use Rattle.machine.specs.Refusals.{deliverRefusal, carryRefusal, closeRefusal, refusal}
 use Rattle.machine.specs.Effects.{giving, deliverDone, carryDone, committed, closeDone}
-use Rattle.machine.specs.Settle.{nowhere, closesFirst, firstClosing, firstDelivering, firstTo, firstFrom, firstCarried, todo, after, settleFor}
+use Rattle.search.specs.Search.{nowhere, closesFirstIn, firstCarriedIn, firstClosingIn, firstDeliveringIn, firstFromIn, firstToIn, todoIn}
+use Rattle.machine.specs.Settle.{closesFirst, firstClosing, firstDelivering, firstTo, firstFrom, firstCarried, todo, after, settleFor}
 use Rattle.machine.specs.Steps.{done, decided}
 use Rattle.machine.specs.declared.State.{State}
-use Rattle.machine.specs.declared.Todo.{Todo}
-use Rattle.machine.specs.declared.Todo.the-variants.{Close, Deliver, Carry, Nothing}
+use Rattle.search.specs.declared.Todo.{Todo}
+use Rattle.search.specs.declared.Todo.the-variants.{Close, Deliver, Carry, Nothing}
 use Rattle.steps.specs.declared.Step.{Step}
 use Rattle.steps.specs.declared.Answer.the-variants as answer
-use Rattle.machine.proofs.Todo as kind
+use Rattle.search.proofs.Todo as kind
 use Rattle.machine.proofs.Laws.{Usable, usable-has}
 
 -- a search that answers below d has found what passes
@@ -40,28 +41,28 @@ found n rank p d b l = elim (first-is n rank p d b) [
 
 module _ (st : State) (u : Usable st) where
   close-first : ltb (firstClosing st) nowhere ≡ true → closeRefusal st (closesFirst st (firstClosing st)) (firstClosing st) ≡ 0
-  unfolding firstClosing closesFirst
+  unfolding firstClosingIn closesFirstIn
   close-first e =
       let s = leastBelow (siteCount (st .tables)) (λ s. ltb (closesFirst st s) nobody) nowhere in
       eqb-true _ _ (found (st .tables .txns) (placeIn (st .places)) (λ t. eqb (closeRefusal st t s) 0) nobody (u .txns)
       (found (siteCount (st .tables)) (λ i. 0) (λ s. ltb (closesFirst st s) nobody) nowhere (u .sites) e))
 
   deliver-first : ltb (firstDelivering st) nowhere ≡ true → deliverRefusal st (firstDelivering st) ≡ 0
-  unfolding firstDelivering
+  unfolding firstDeliveringIn
   deliver-first e = eqb-true _ _ (found (siteCount (st .tables)) (λ i. 0) (λ s. eqb (deliverRefusal st s) 0) nowhere (u .sites) e)
 
   carry-first : ltb (firstCarried st) nobody ≡ true
       → let t = firstCarried st in carryRefusal st t (firstFrom st t) (firstTo st t (firstFrom st t)) ≡ 0
-  unfolding firstCarried
+  unfolding firstCarriedIn
   carry-first e =
       let t = firstBelow (st .tables .txns) (placeIn (st .places)) (λ t. ltb (firstFrom st t) nowhere) nobody in
       to t (firstFrom st t) (from t (found (st .tables .txns) (placeIn (st .places)) (λ t. ltb (firstFrom st t) nowhere) nobody (u .txns) e))
     where
       from : (t : ℕ) → ltb (firstFrom st t) nowhere ≡ true → ltb (firstTo st t (firstFrom st t)) nowhere ≡ true
-      from t h = unfold firstFrom in found (siteCount (st .tables)) (λ i. 0) (λ f. ltb (firstTo st t f) nowhere) nowhere (u .sites) h
+      from t h = unfold firstFromIn in found (siteCount (st .tables)) (λ i. 0) (λ f. ltb (firstTo st t f) nowhere) nowhere (u .sites) h
 
       to : (t f : ℕ) → ltb (firstTo st t f) nowhere ≡ true → carryRefusal st t f (firstTo st t f) ≡ 0
-      to t f h = unfold firstTo in eqb-true _ _ (found (siteCount (st .tables)) (λ i. 0) (λ s. eqb (carryRefusal st t f s) 0) nowhere (u .sites) h)
+      to t f h = unfold firstToIn in eqb-true _ _ (found (siteCount (st .tables)) (λ i. 0) (λ s. eqb (carryRefusal st t f s) 0) nowhere (u .sites) h)
 
 -- what SETTLE takes next is accepted
 abbrev pub Accepted : State → Todo → Type 0
@@ -71,7 +72,7 @@ Accepted st (Carry t from to) = carryRefusal st t from to ≡ 0
 Accepted st Nothing = Unit {0}
 
 pub todo-accepted : (st : State) → usable st ≡ true → Accepted st (todo st)
-unfolding todo
+unfolding todoIn
 todo-accepted st h = closing (ltb (firstClosing st) nowhere) refl
   where
     carrying : (b : Bool) → ltb (firstCarried st) nobody ≡ b

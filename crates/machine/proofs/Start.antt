@@ -20,6 +20,7 @@ use Rattle.tables.specs.Judge.{judge, keysRefusal, groupRefusal}
 use Rattle.tables.specs.declared.Tables.{Tables}
 use Rattle.tables.proofs.Laws.{groups-low}
 use Rattle.rules.specs.Fit.{countsFit}
+use Rattle.refusals.specs.Refusals.{readRefusalIn, submitRefusalIn}
 use Rattle.machine.specs.Usable.{usable}
 use Rattle.machine.specs.Refusals.{readRefusal, submitRefusal}
 use Rattle.machine.specs.Fresh.{firstAt}
@@ -41,7 +42,7 @@ pub record Readable (st : State) (t i s : ℕ) : Type 0 where
   pub key : readKey (st .tables) t i < 64
 
 pub read-has : (st : State) (t i s : ℕ) → usable st ≡ true → readRefusal st t i s ≡ 0 → Readable st t i s
-unfolding readRefusal
+unfolding readRefusalIn
 read-has st t i s ok h =
     let (a, h1) = passed 20 (omega arith) (leb (st .tables .txns) t) _ h in
     let (b, h2) = passed 22 (omega arith) (leb (readCount (st .tables) t) i) _ h1 in
@@ -59,7 +60,7 @@ read-has st t i s ok h =
         }
 
 pub submit-has : (st : State) (t : ℕ) → usable st ≡ true → submitRefusal st t ≡ 0 → t < 128
-unfolding submitRefusal
+unfolding submitRefusalIn
 submit-has st t ok h = let l = leb-false (st .tables .txns) t (passed 20 (omega arith) (leb (st .tables .txns) t) _ h .0) in omega (arith, usable-has st ok .txns)
 
 -- ---- tables that are judged good

@@ -1,11 +1,9 @@
 -- The protocol's questions, asked of a state.
 use Prim.Native.Nat.{ℕ}
-use mathlib.Core.Bool.{Bool, cond}
-use Rattle.tables.specs.Lists.{readCount, writeCount}
-use Rattle.tables.specs.Sites.{siteCount, siteKeys}
-use Rattle.tables.specs.Concern.{votes}
-use Rattle.rules.specs.Queue.{queuedIn, headIn, blockedIn, nextIn, submittedIn}
-use Rattle.rules.specs.Votes.{certifyIn, holdsVote, coveredIn, allYesIn, verdictBy, roomIn}
+use mathlib.Core.Bool.{Bool}
+use Rattle.rules.specs.Queue.{queuedIn, headIn, submittedIn}
+use Rattle.rules.specs.Votes.{holdsVote}
+use Rattle.refusals.specs.Refusals.{nextOf, blockedOf, voteIn, verdictAt, roomOf}
 use Rattle.machine.specs.Parts.{castBy, carriedTo}
 use Rattle.machine.specs.declared.State.{State}
 
@@ -18,12 +16,10 @@ atHead st t s = headIn (st .places) (st .delivered) (st .closed) (st .tables .tx
 
 -- the next to deliver at s, and whether it conflicts with one in the queue
 abbrev pub nextAt : State → ℕ → ℕ
-nextAt st s =
-    nextIn (st .places) (st .delivered) (st .tables .reads) (st .tables .nreads) (st .tables .writes) (st .tables .nwrites) (st .tables .txns) (siteKeys (st .tables) s) s
+nextAt st s = nextOf (st .tables) (st .places) (st .delivered) s
 
 abbrev pub blocked : State → ℕ → ℕ → Bool
-blocked st t s =
-    blockedIn (st .delivered) (st .closed) (st .tables .reads) (st .tables .nreads) (st .tables .writes) (st .tables .nwrites) (st .tables .txns) t s
+blocked st t s = blockedOf (st .tables) (st .delivered) (st .closed) t s
 
 -- how many were submitted
 abbrev pub submitted : State → ℕ
@@ -31,10 +27,7 @@ submitted st = submittedIn (st .places) (st .tables .txns)
 
 -- what s casts on t: 1 yes, 2 no, if it is in V(t); else 0, none
 abbrev pub voteOf : State → ℕ → ℕ → ℕ
-voteOf st t s =
-    cond (votes (st .tables) t s)
-    (certifyIn (st .versions) (st .readversions) (st .recorded) (st .tables .reads) (readCount (st .tables) t) t s (siteKeys (st .tables) s))
-    0
+voteOf st t s = voteIn (st .tables) (st .versions) (st .readversions) (st .recorded) t s
 
 -- s holds the vote of f on t
 abbrev pub holdsVoteOf : State → ℕ → ℕ → ℕ → Bool
@@ -42,11 +35,8 @@ holdsVoteOf st t s f = holdsVote (castBy st t s) (carriedTo st t s) s f
 
 -- the verdict on t at s: 0 not known, 1 commit, 2 abort
 abbrev pub verdict : State → ℕ → ℕ → ℕ
-verdict st t s =
-    verdictBy (readCount (st .tables) t)
-    (coveredIn (castBy st t s) (carriedTo st t s) (st .tables .sizes) (st .tables .masks) (st .tables .groups) (st .tables .reads) (readCount (st .tables) t) (siteCount (st .tables)) t s)
-    (allYesIn (st .cast) (carriedTo st t s) (siteCount (st .tables)) t s)
+verdict st t s = verdictAt (st .tables) (st .cast) (st .carried) t s
 
 -- a commit of t at s has a version left for each key that it writes there
 abbrev pub roomAt : State → ℕ → ℕ → Bool
-roomAt st t s = roomIn (st .versions) (st .tables .writes) (writeCount (st .tables) t) t s (siteKeys (st .tables) s)
+roomAt st t s = roomOf (st .tables) (st .versions) t s

@@ -1,54 +1,39 @@
 -- SETTLE: the first step accepted among CLOSE, DELIVER and CARRY, again and again until none is.
 use Prim.Native.Nat.{ℕ, zero, suc, _+_}
-use mathlib.Core.Bool.{Bool, cond}
-use lib.Dec.{eqb, ltb}
-use Rattle.bounded.specs.Bounded.{firstBelow, leastBelow}
-use Rattle.tables.specs.Sites.{siteCount}
-use Rattle.machine.specs.Parts.{placeOf}
-use Rattle.rules.specs.Cells.{nobody}
-use Rattle.machine.specs.Refusals.{deliverRefusal, carryRefusal, closeRefusal}
 use Rattle.machine.specs.Effects.{giving, deliverDone, carryDone, closeDone}
 use Rattle.machine.specs.declared.State.{State}
 use Rattle.machine.specs.declared.Stepped.{Stepped}
 use Rattle.steps.specs.declared.Answer.the-variants as answer
-use Rattle.machine.specs.declared.Todo.{Todo}
-use Rattle.machine.specs.declared.Todo.the-variants.{Close, Deliver, Carry, Nothing}
+use Rattle.search.specs.Search.{Parts, parts, closesFirstIn, firstClosingIn, firstDeliveringIn, firstToIn, firstFromIn, firstCarriedIn, todoIn}
+use Rattle.search.specs.declared.Todo.{Todo}
+use Rattle.search.specs.declared.Todo.the-variants.{Close, Deliver, Carry, Nothing}
 
--- no site: what a search answers where there is none
-abbrev pub nowhere : ℕ
-nowhere = 16
+-- what SETTLE's steps look at
+abbrev pub partsOf : State → Parts
+partsOf st = parts (st .versions) (st .places) (st .delivered) (st .closed) (st .cast) (st .carried)
 
--- CLOSE: the lowest site, then queue order
-unfoldable pub closesFirst : State → ℕ → ℕ
-closesFirst st s = firstBelow (st .tables .txns) (placeOf st) (λ t. eqb (closeRefusal st t s) 0) nobody
+-- the searches for it: CLOSE, DELIVER, CARRY
+abbrev pub closesFirst : State → ℕ → ℕ
+closesFirst st s = closesFirstIn (st .tables) (partsOf st) s
 
-unfoldable pub firstClosing : State → ℕ
-firstClosing st = leastBelow (siteCount (st .tables)) (λ s. ltb (closesFirst st s) nobody) nowhere
+abbrev pub firstClosing : State → ℕ
+firstClosing st = firstClosingIn (st .tables) (partsOf st)
 
--- DELIVER: the lowest site
-unfoldable pub firstDelivering : State → ℕ
-firstDelivering st = leastBelow (siteCount (st .tables)) (λ s. eqb (deliverRefusal st s) 0) nowhere
+abbrev pub firstDelivering : State → ℕ
+firstDelivering st = firstDeliveringIn (st .tables) (st .places) (st .delivered) (st .closed)
 
--- CARRY: the lowest place, then from, then to
-unfoldable pub firstTo : State → ℕ → ℕ → ℕ
-firstTo st t from = leastBelow (siteCount (st .tables)) (λ to. eqb (carryRefusal st t from to) 0) nowhere
+abbrev pub firstTo : State → ℕ → ℕ → ℕ
+firstTo st t from = firstToIn (st .tables) (st .cast) (st .carried) t from
 
-unfoldable pub firstFrom : State → ℕ → ℕ
-firstFrom st t = leastBelow (siteCount (st .tables)) (λ from. ltb (firstTo st t from) nowhere) nowhere
+abbrev pub firstFrom : State → ℕ → ℕ
+firstFrom st t = firstFromIn (st .tables) (st .cast) (st .carried) t
 
-unfoldable pub firstCarried : State → ℕ
-firstCarried st = firstBelow (st .tables .txns) (placeOf st) (λ t. ltb (firstFrom st t) nowhere) nobody
+abbrev pub firstCarried : State → ℕ
+firstCarried st = firstCarriedIn (st .tables) (st .places) (st .cast) (st .carried)
 
 -- the first step accepted
-unfoldable pub todo : State → Todo
-todo st =
-    let s = firstClosing st in
-    let d = firstDelivering st in
-    let t = firstCarried st in
-    let f = firstFrom st t in
-    let carrying = cond (ltb t nobody) (Carry t f (firstTo st t f)) Nothing in
-    let delivering = cond (ltb d nowhere) (Deliver d) carrying in
-    cond (ltb s nowhere) (Close (closesFirst st s) s) delivering
+abbrev pub todo : State → Todo
+todo st = todoIn (st .tables) (partsOf st)
 
 -- and what it leaves
 abbrev pub after : State → Todo → State

@@ -2,17 +2,20 @@
 ghost use mathlib.Core.Path.{_≡_};
 ghost use mathlib.Core.Bool.{true, cond};
 ghost use Prim.Native.Nat.{_≤_, _<_};
+ghost use lib.Dec.{eqb};
 ghost use Rattle.keys.specs.Keys.{member};
 ghost use Rattle.tables.specs.Sites.{siteCount};
-ghost use Rattle.tables.specs.Concern.{concerns};
-ghost use Rattle.machine.specs.Rules.{nextAt, voteOf, verdict, roomAt};
+ghost use Rattle.machine.specs.Rules.{roomAt};
 ghost use Rattle.machine.specs.Usable.{usable};
-ghost use Rattle.machine.specs.Refusals.{readRefusal, submitRefusal, deliverRefusal, voteRefusal, carryRefusal, verdictRefusal, closeRefusal};
-ghost use Rattle.machine.specs.Effects.{committed};
-ghost use Rattle.machine.specs.Settle.{closesFirst, firstClosing, firstDelivering, firstTo, firstFrom, firstCarried, todo, after};
+ghost use Rattle.machine.specs.Refusals.{readRefusal, submitRefusal, deliverRefusal, carryRefusal, closeRefusal, refusal};
+ghost use Rattle.machine.specs.Effects.{readDone, submitDone, deliverDone, carryDone, committed, closeDone};
+ghost use Rattle.search.specs.Known.{Knows};
+ghost use Rattle.machine.specs.Settle.{partsOf, todo, after, settleDone};
 ghost use Rattle.machine.specs.Steps.{decided, stepOf};
 ghost use Rattle.machine.specs.Fresh.{startOf, freshOf};
-use rules::Found;
+use search::Known;
+use search::Next;
+use search::Todo;
 use steps::Answer;
 use steps::Place;
 use steps::Step;
@@ -52,14 +55,6 @@ pub struct Fresh {
     pub state: State,
 }
 
-// The step that SETTLE takes next.
-pub enum Todo {
-    Close { t: u8, s: u8 },
-    Deliver(u8),
-    Carry { t: u8, from: u8, to: u8 },
-    Nothing,
-}
-
 // The first value x of key k, where it is in the set m; else 0.
 fn held_value(m: u64, k: usize, x: u32) -> u32
     requires { ⌜ k < 64 ⌝ }
@@ -97,398 +92,111 @@ impl State {
         false
     }
 
-    // ---- READ
-
-    fn read_refusal(self, t: u8, i: u8, s: u8) -> u8
+    // The number that refuses x, 0 where it is accepted.
+    fn refusal(self, x: Step) -> u8
         requires { ⌜ usable self ≡ true ⌝ }
-        ensures { λ r. ⌜ r ≡ readRefusal self t i s ⌝ }
+        ensures { λ r. ⌜ r ≡ refusal self x ⌝ }
     {
-        if self.tables.txns <= t {
-            return 20;
-        }
-        let at = t as usize;
-        let read = i as usize;
-        if tables::count_at(&self.tables.nreads, at) <= read {
-            return 22;
-        }
-        let site = s as usize;
-        if tables::sites_in(&self.tables.sizes, self.tables.groups) <= site {
-            return 21;
-        }
-        let m = tables::site_keys(
-            &self.tables.sizes,
-            &self.tables.masks,
-            self.tables.groups,
-            site,
-        );
-        if keys::has_key(m, tables::key_at(&self.tables.reads, at, read)) {
-            if self.recorded[at * 8 + read] {
-                return 24;
+        let tables = self.tables;
+        let places = self.places;
+        match x {
+            Step::Read { t, i, s } => refusals::read_refusal(tables, &self.recorded, t, i, s),
+            Step::Submit(t) => refusals::submit_refusal(tables, places, &self.recorded, t),
+            Step::Deliver(s) => {
+                refusals::deliver_refusal(tables, places, &self.delivered, &self.closed, s)
             }
-            return 0;
+            Step::Carry { t, from, to } => {
+                refusals::carry_refusal(tables, &self.cast, &self.carried, t, from, to)
+            }
+            Step::Close { t, s } => {
+                let versions = self.versions;
+                refusals::close_refusal(
+                    tables,
+                    versions,
+                    places,
+                    &self.delivered,
+                    &self.closed,
+                    &self.cast,
+                    &self.carried,
+                    t,
+                    s,
+                )
+            }
+            Step::Settle => 0,
         }
-        23
     }
 
+    // ---- what an accepted step does
+
     // Records the version and value of t's i-th read key at s.
-    fn take_read(self, t: u8, i: u8, s: u8) -> Stepped
-        requires { ⌜ usable self ≡ true ⌝ }
-        ensures { λ r. ⌜ r ≡ decided self (Step.Read t i s) ⌝ }
+    fn take_read(mut self, t: u8, i: u8, s: u8) -> Stepped
+        requires { ⌜ (usable self ≡ true) × (readRefusal self t i s ≡ 0) ⌝ }
+        ensures { λ r. ⌜ r ≡ readDone self t i s ⌝ }
     {
-        let n = self.read_refusal(t, i, s);
-        if n != 0 {
-            return Stepped {
-                answer: Answer::Refused(n),
-                next: self,
-            };
-        }
         let at = t as usize;
         let read = i as usize;
         let k = tables::key_at(&self.tables.reads, at, read);
         let from = s as usize * 64 + wide(k);
         let version = self.versions[from];
         let value = self.values[from];
-        let mut next = self;
-        next.recorded[at * 8 + read] = true;
-        next.readversions[at * 8 + read] = version;
-        next.readvalues[at * 8 + read] = value;
+        self.recorded[at * 8 + read] = true;
+        self.readversions[at * 8 + read] = version;
+        self.readvalues[at * 8 + read] = value;
         Stepped {
             answer: Answer::Read(version, value),
-            next,
+            next: self,
         }
-    }
-
-    // ---- SUBMIT
-
-    fn submit_refusal(self, t: u8) -> u8
-        requires { ⌜ usable self ≡ true ⌝ }
-        ensures { λ r. ⌜ r ≡ submitRefusal self t ⌝ }
-    {
-        if self.tables.txns <= t {
-            return 20;
-        }
-        let at = t as usize;
-        let Place(p) = self.places[at];
-        if 0 < p {
-            return 24;
-        }
-        let n = tables::count_at(&self.tables.nreads, at);
-        if rules::is_recorded(&self.recorded, n, at) {
-            return 0;
-        }
-        25
     }
 
     // Gives t the next place.
-    fn take_submit(self, t: u8) -> Stepped
-        requires { ⌜ usable self ≡ true ⌝ }
-        ensures { λ r. ⌜ r ≡ decided self (Step.Submit t) ⌝ }
+    fn take_submit(mut self, t: u8) -> Stepped
+        requires { ⌜ (usable self ≡ true) × (submitRefusal self t ≡ 0) ⌝ }
+        ensures { λ r. ⌜ r ≡ submitDone self t ⌝ }
     {
-        let n = self.submit_refusal(t);
-        if n != 0 {
-            return Stepped {
-                answer: Answer::Refused(n),
-                next: self,
-            };
-        }
         let places = self.places;
         let place = rules::submitted(places, self.tables.txns) + 1;
-        let mut next = self;
-        next.places[t as usize] = Place(place);
+        self.places[t as usize] = Place(place);
         Stepped {
             answer: Answer::Submitted(Place(place)),
-            next,
+            next: self,
         }
-    }
-
-    // ---- DELIVER
-
-    // The next to deliver at s, 128 for none.
-    fn next_at(self, s: usize) -> u8
-        requires { ⌜ usable self ≡ true ⌝ }
-        requires { ⌜ s < siteCount (self .tables) ⌝ }
-        ensures { λ r. ⌜ r ≡ nextAt self s ⌝ }
-    {
-        let m = tables::site_keys(
-            &self.tables.sizes,
-            &self.tables.masks,
-            self.tables.groups,
-            s,
-        );
-        let places = self.places;
-        rules::next_at(
-            places,
-            &self.delivered,
-            &self.tables.reads,
-            &self.tables.nreads,
-            &self.tables.writes,
-            &self.tables.nwrites,
-            self.tables.txns,
-            m,
-            s,
-        )
-    }
-
-    fn deliver_refusal(self, s: u8) -> u8
-        requires { ⌜ usable self ≡ true ⌝ }
-        ensures { λ r. ⌜ r ≡ deliverRefusal self s ⌝ }
-    {
-        let site = s as usize;
-        if tables::sites_in(&self.tables.sizes, self.tables.groups) <= site {
-            return 21;
-        }
-        let t = self.next_at(site);
-        if t == 128 {
-            return 26;
-        }
-        if rules::is_blocked(
-            &self.delivered,
-            &self.closed,
-            &self.tables.reads,
-            &self.tables.nreads,
-            &self.tables.writes,
-            &self.tables.nwrites,
-            self.tables.txns,
-            t as usize,
-            site,
-        ) {
-            return 27;
-        }
-        0
-    }
-
-    // What s casts on t: 0 where it is not in V(t).
-    fn vote(self, t: usize, s: usize) -> u8
-        requires { ⌜ usable self ≡ true ⌝ }
-        requires { ⌜ (t < self .tables .txns) × (s < siteCount (self .tables)) ⌝ }
-        ensures { λ r. ⌜ r ≡ voteOf self t s ⌝ }
-    {
-        let m = tables::site_keys(
-            &self.tables.sizes,
-            &self.tables.masks,
-            self.tables.groups,
-            s,
-        );
-        let n = tables::count_at(&self.tables.nreads, t);
-        if tables::some_in(&self.tables.reads, t, n, m) {
-            let versions = self.versions;
-            let read = self.readversions;
-            return rules::certify(
-                versions,
-                read,
-                &self.recorded,
-                &self.tables.reads,
-                n,
-                t,
-                s,
-                m,
-            );
-        }
-        0
     }
 
     // Puts the next into the queue of s, with the vote of s.
-    fn take_deliver(self, s: u8) -> Stepped
-        requires { ⌜ usable self ≡ true ⌝ }
-        ensures { λ r. ⌜ r ≡ decided self (Step.Deliver s) ⌝ }
+    fn take_deliver(mut self, s: u8) -> Stepped
+        requires { ⌜ (usable self ≡ true) × (deliverRefusal self s ≡ 0) ⌝ }
+        ensures { λ r. ⌜ r ≡ deliverDone self s ⌝ }
     {
-        let n = self.deliver_refusal(s);
-        if n != 0 {
-            return Stepped {
-                answer: Answer::Refused(n),
-                next: self,
-            };
-        }
         let site = s as usize;
-        let t = self.next_at(site);
+        let tables = self.tables;
+        let places = self.places;
+        let t = refusals::next_at(tables, places, &self.delivered, site);
         let at = t as usize;
-        let vote = self.vote(at, site);
-        let mut next = self;
-        next.delivered[at * 16 + site] = true;
-        next.cast[at * 16 + site] = vote;
+        let versions = self.versions;
+        let read = self.readversions;
+        let vote = refusals::vote(tables, versions, read, &self.recorded, at, site);
+        self.delivered[at * 16 + site] = true;
+        self.cast[at * 16 + site] = vote;
         Stepped {
             answer: Answer::Delivered { t, vote },
-            next,
+            next: self,
         }
-    }
-
-    // ---- CARRY
-
-    // Whether s is in R(t).
-    fn is_concerned(self, t: usize, s: usize) -> bool
-        requires { ⌜ usable self ≡ true ⌝ }
-        requires { ⌜ t < self .tables .txns ⌝ }
-        ensures { λ r. ⌜ r ≡ concerns (self .tables) t s ⌝ }
-    {
-        let m = tables::site_keys(
-            &self.tables.sizes,
-            &self.tables.masks,
-            self.tables.groups,
-            s,
-        );
-        tables::touch(
-            &self.tables.reads,
-            &self.tables.nreads,
-            &self.tables.writes,
-            &self.tables.nwrites,
-            t,
-            m,
-        )
-    }
-
-    // What refuses the carrying of a vote between two sites, the second of them of R(t).
-    fn vote_refusal(self, t: usize, f: usize, s: usize) -> u8
-        requires { ⌜ usable self ≡ true ⌝ }
-        requires { ⌜ (t < self .tables .txns) × ((f < siteCount (self .tables)) × (s < siteCount (self .tables))) ⌝ }
-        ensures { λ r. ⌜ r ≡ voteRefusal self t f s ⌝ }
-    {
-        let tables = self.tables;
-        if tables.is_local(t) {
-            return 28;
-        }
-        if f == s {
-            return 28;
-        }
-        if self.cast[t * 16 + f] == 0 {
-            return 28;
-        }
-        if rules::has_vote(self.cast[t * 16 + s], self.carried[t * 16 + s], s, f) {
-            return 24;
-        }
-        0
-    }
-
-    fn carry_refusal(self, t: u8, from: u8, to: u8) -> u8
-        requires { ⌜ usable self ≡ true ⌝ }
-        ensures { λ r. ⌜ r ≡ carryRefusal self t «from» to ⌝ }
-    {
-        if self.tables.txns <= t {
-            return 20;
-        }
-        let n = tables::sites_in(&self.tables.sizes, self.tables.groups);
-        let f = from as usize;
-        if n <= f {
-            return 21;
-        }
-        let s = to as usize;
-        if n <= s {
-            return 21;
-        }
-        let at = t as usize;
-        if self.is_concerned(at, s) {
-            return self.vote_refusal(at, f, s);
-        }
-        23
     }
 
     // Hands the vote of from on t to to.
-    fn take_carry(self, t: u8, from: u8, to: u8) -> Stepped
-        requires { ⌜ usable self ≡ true ⌝ }
-        ensures { λ r. ⌜ r ≡ decided self (Step.Carry t «from» to) ⌝ }
+    fn take_carry(mut self, t: u8, from: u8, to: u8) -> Stepped
+        requires { ⌜ (usable self ≡ true) × (carryRefusal self t «from» to ≡ 0) ⌝ }
+        ensures { λ r. ⌜ r ≡ carryDone self t «from» to ⌝ }
     {
-        let n = self.carry_refusal(t, from, to);
-        if n != 0 {
-            return Stepped {
-                answer: Answer::Refused(n),
-                next: self,
-            };
-        }
         let f = from as usize;
         let at = t as usize * 16 + to as usize;
         let vote = self.cast[t as usize * 16 + f];
         let carried = keys::with_site(self.carried[at], f);
-        let mut next = self;
-        next.carried[at] = carried;
+        self.carried[at] = carried;
         Stepped {
             answer: Answer::Carried(vote),
-            next,
+            next: self,
         }
-    }
-
-    // ---- CLOSE
-
-    // The verdict on t at s: 0 not known, 1 commit, 2 abort.
-    fn verdict_at(self, t: usize, s: usize) -> u8
-        requires { ⌜ usable self ≡ true ⌝ }
-        requires { ⌜ (t < self .tables .txns) × (s < siteCount (self .tables)) ⌝ }
-        ensures { λ r. ⌜ r ≡ verdict self t s ⌝ }
-    {
-        let r = tables::count_at(&self.tables.nreads, t);
-        let n = tables::sites_in(&self.tables.sizes, self.tables.groups);
-        rules::verdict(
-            &self.cast,
-            &self.carried,
-            &self.tables.sizes,
-            &self.tables.masks,
-            self.tables.groups,
-            &self.tables.reads,
-            r,
-            n,
-            t,
-            s,
-        )
-    }
-
-    // What refuses the closing of one in the queue.
-    fn verdict_refusal(self, t: usize, s: usize) -> u8
-        requires { ⌜ usable self ≡ true ⌝ }
-        requires { ⌜ (t < self .tables .txns) × (s < siteCount (self .tables)) ⌝ }
-        ensures { λ r. ⌜ r ≡ verdictRefusal self t s ⌝ }
-    {
-        let v = self.verdict_at(t, s);
-        if v == 0 {
-            return 30;
-        }
-        if v == 1 {
-            let places = self.places;
-            if rules::is_at_head(
-                places,
-                &self.delivered,
-                &self.closed,
-                self.tables.txns,
-                t,
-                s,
-            ) {
-                let m = tables::site_keys(
-                    &self.tables.sizes,
-                    &self.tables.masks,
-                    self.tables.groups,
-                    s,
-                );
-                let w = tables::count_at(&self.tables.nwrites, t);
-                let versions = self.versions;
-                if rules::has_room(versions, &self.tables.writes, w, t, s, m) {
-                    return 0;
-                }
-                return 32;
-            }
-            return 31;
-        }
-        0
-    }
-
-    fn close_refusal(self, t: u8, s: u8) -> u8
-        requires { ⌜ usable self ≡ true ⌝ }
-        ensures { λ r. ⌜ r ≡ closeRefusal self t s ⌝ }
-    {
-        if self.tables.txns <= t {
-            return 20;
-        }
-        let at = t as usize;
-        let site = s as usize;
-        if tables::sites_in(&self.tables.sizes, self.tables.groups) <= site {
-            return 21;
-        }
-        if self.is_concerned(at, site) {
-            if 0 < self.closed[at * 16 + site] {
-                return 24;
-            }
-            if self.delivered[at * 16 + site] {
-                return self.verdict_refusal(at, site);
-            }
-            return 29;
-        }
-        23
     }
 
     // The stores after a commit of t at s.
@@ -521,30 +229,29 @@ impl State {
         next
     }
 
+    // The state after a commit of t at s, where that is the verdict.
+    fn stores(self, t: usize, s: usize, verdict: u8) -> State
+        requires { ⌜ usable self ≡ true ⌝ }
+        requires { ⌜ (t < self .tables .txns) × (s < siteCount (self .tables)) ⌝ }
+        requires { ⌜ (verdict ≡ 1 → roomAt self t s ≡ true) ⌝ }
+        ensures { λ r. ⌜ r ≡ cond (eqb verdict 1) (committed self t s) self ⌝ }
+    {
+        if verdict == 1 {
+            return self.commit(t, s);
+        }
+        self
+    }
+
     // Closes t at s by its verdict.
     fn take_close(self, t: u8, s: u8) -> Stepped
-        requires { ⌜ usable self ≡ true ⌝ }
-        ensures { λ r. ⌜ r ≡ decided self (Step.Close t s) ⌝ }
+        requires { ⌜ (usable self ≡ true) × (closeRefusal self t s ≡ 0) ⌝ }
+        ensures { λ r. ⌜ r ≡ closeDone self t s ⌝ }
     {
-        let n = self.close_refusal(t, s);
-        if n != 0 {
-            return Stepped {
-                answer: Answer::Refused(n),
-                next: self,
-            };
-        }
         let at = t as usize;
         let site = s as usize;
-        let verdict = self.verdict_at(at, site);
-        if verdict == 1 {
-            let mut next = self.commit(at, site);
-            next.closed[at * 16 + site] = verdict;
-            return Stepped {
-                answer: Answer::Closed(verdict),
-                next,
-            };
-        }
-        let mut next = self;
+        let tables = self.tables;
+        let verdict = refusals::verdict_at(tables, &self.cast, &self.carried, at, site);
+        let mut next = self.stores(at, site, verdict);
         next.closed[at * 16 + site] = verdict;
         Stepped {
             answer: Answer::Closed(verdict),
@@ -554,128 +261,48 @@ impl State {
 
     // ---- SETTLE: the first step accepted among CLOSE, DELIVER and CARRY, until none is
 
-    // The first in queue order that can be closed at s, 128 for none.
-    fn closes_first(self, s: u8) -> u8
+    // The step that SETTLE takes next, with what is known by then to be refused.
+    fn next_step(self, known: Known) -> Next
         requires { ⌜ usable self ≡ true ⌝ }
-        ensures { λ r. ⌜ r ≡ closesFirst self s ⌝ }
+        requires { ⌜ Knows (self .tables) (partsOf self) known ⌝ }
+        ensures { λ r. ⌜ r .todo ≡ todo self ⌝ }
+        ensures { λ r. ⌜ Knows (self .tables) (partsOf self) (r .known) ⌝ }
     {
-        let mut found = Found { t: 128, place: 0 };
-        let mut t: u8 = 0;
-        while t < self.tables.txns {
-            let Place(p) = self.places[t as usize];
-            let n = self.close_refusal(t, s);
-            found = rules::sooner(found, n == 0, t, p);
-            t += 1;
-        }
-        found.t
+        let tables = self.tables;
+        let versions = self.versions;
+        let places = self.places;
+        search::next_step(
+            tables,
+            versions,
+            places,
+            &self.delivered,
+            &self.closed,
+            &self.cast,
+            &self.carried,
+            known,
+        )
     }
 
-    // The lowest site where one can be closed, 16 for none.
-    fn first_closing(self) -> u8
-        requires { ⌜ usable self ≡ true ⌝ }
-        ensures { λ r. ⌜ r ≡ firstClosing self ⌝ }
+    // What is known after it.
+    fn known_after(self, known: Known, x: Todo) -> Known
+        requires { ⌜ (usable self ≡ true) × (x ≡ todo self) ⌝ }
+        requires { ⌜ Knows (self .tables) (partsOf self) known ⌝ }
+        ensures { λ r. ⌜ Knows (self .tables) (partsOf (after self x)) r ⌝ }
     {
-        let n = tables::sites_in(&self.tables.sizes, self.tables.groups) as u8;
-        let mut s: u8 = 0;
-        while s < n {
-            if self.closes_first(s) < 128 {
-                return s;
+        match x {
+            Todo::Close { t: _, s } => known.closed(s as usize),
+            Todo::Deliver(s) => {
+                let site = s as usize;
+                let tables = self.tables;
+                let places = self.places;
+                let t = refusals::next_at(tables, places, &self.delivered, site) as usize;
+                let n = tables::sites_in(&tables.sizes, tables.groups);
+                let others = search::is_shared(&self.carried, n, t, site);
+                known.delivered(t, site, others)
             }
-            s += 1;
+            Todo::Carry { t, from, to } => { known.carried(t as usize, from as usize, to as usize) }
+            Todo::Nothing => known,
         }
-        16
-    }
-
-    // The lowest site where one can be delivered, 16 for none.
-    fn first_delivering(self) -> u8
-        requires { ⌜ usable self ≡ true ⌝ }
-        ensures { λ r. ⌜ r ≡ firstDelivering self ⌝ }
-    {
-        let n = tables::sites_in(&self.tables.sizes, self.tables.groups) as u8;
-        let mut s: u8 = 0;
-        while s < n {
-            if self.deliver_refusal(s) == 0 {
-                return s;
-            }
-            s += 1;
-        }
-        16
-    }
-
-    // The lowest site to which the vote of f on t can be carried, 16 for none.
-    fn first_to(self, t: u8, f: u8) -> u8
-        requires { ⌜ usable self ≡ true ⌝ }
-        ensures { λ r. ⌜ r ≡ firstTo self t f ⌝ }
-    {
-        let n = tables::sites_in(&self.tables.sizes, self.tables.groups) as u8;
-        let mut s: u8 = 0;
-        while s < n {
-            if self.carry_refusal(t, f, s) == 0 {
-                return s;
-            }
-            s += 1;
-        }
-        16
-    }
-
-    // The lowest site whose vote on t can be carried, 16 for none.
-    fn first_from(self, t: u8) -> u8
-        requires { ⌜ usable self ≡ true ⌝ }
-        ensures { λ r. ⌜ r ≡ firstFrom self t ⌝ }
-    {
-        let n = tables::sites_in(&self.tables.sizes, self.tables.groups) as u8;
-        let mut f: u8 = 0;
-        while f < n {
-            if self.first_to(t, f) < 16 {
-                return f;
-            }
-            f += 1;
-        }
-        16
-    }
-
-    // The lowest place of which a vote can be carried, 128 for none.
-    fn first_carried(self) -> u8
-        requires { ⌜ usable self ≡ true ⌝ }
-        ensures { λ r. ⌜ r ≡ firstCarried self ⌝ }
-    {
-        let mut found = Found { t: 128, place: 0 };
-        let mut t: u8 = 0;
-        while t < self.tables.txns {
-            let Place(p) = self.places[t as usize];
-            let f = self.first_from(t);
-            found = rules::sooner(found, f < 16, t, p);
-            t += 1;
-        }
-        found.t
-    }
-
-    // The step that SETTLE takes next.
-    fn next_step(self) -> Todo
-        requires { ⌜ usable self ≡ true ⌝ }
-        ensures { λ r. ⌜ r ≡ todo self ⌝ }
-    {
-        let s = self.first_closing();
-        if s < 16 {
-            return Todo::Close {
-                t: self.closes_first(s),
-                s,
-            };
-        }
-        let d = self.first_delivering();
-        if d < 16 {
-            return Todo::Deliver(d);
-        }
-        let t = self.first_carried();
-        if t < 128 {
-            let from = self.first_from(t);
-            return Todo::Carry {
-                t,
-                from,
-                to: self.first_to(t, from),
-            };
-        }
-        Todo::Nothing
     }
 
     // The state after that step.
@@ -702,18 +329,21 @@ impl State {
 
     fn take_settle(self) -> Stepped
         requires { ⌜ usable self ≡ true ⌝ }
-        ensures { λ r. ⌜ r ≡ decided self Step.Settle ⌝ }
+        ensures { λ r. ⌜ r ≡ settleDone self ⌝ }
     {
         let mut st = self;
+        let mut known = Known::first();
         let mut n: u32 = 0;
         while n < 34816 {
-            let x = st.next_step();
+            let next = st.next_step(known);
+            let x = next.todo;
             if let Todo::Nothing = x {
                 return Stepped {
                     answer: Answer::Settled(n),
                     next: st,
                 };
             }
+            known = st.known_after(next.known, x);
             st = st.after_step(x);
             n += 1;
         }
@@ -728,6 +358,13 @@ impl State {
         requires { ⌜ usable self ≡ true ⌝ }
         ensures { λ r. ⌜ r ≡ decided self x ⌝ }
     {
+        let n = self.refusal(x);
+        if n != 0 {
+            return Stepped {
+                answer: Answer::Refused(n),
+                next: self,
+            };
+        }
         match x {
             Step::Read { t, i, s } => self.take_read(t, i, s),
             Step::Submit(t) => self.take_submit(t),

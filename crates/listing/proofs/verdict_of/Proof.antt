@@ -6,7 +6,7 @@ use borrow.Author.Tests.{lt-ltb, le-ltb}
 use Rattle.bounded.specs.Bounded.{firstBelow, leastBelow}
 use Rattle.bounded.proofs.Laws.{least-up, least-stop}
 use Rattle.rules.specs.Cells.{cell}
-use Rattle.machine.specs.Settle.{nowhere}
+use Rattle.search.specs.Search.{nowhere}
 use Rattle.listing.specs.Lines.{verdictIn}
 use native.Mathlib.Omega.{arith}
 use borrow.Author.Needs.{needs}

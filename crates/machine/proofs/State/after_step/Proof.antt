@@ -1,9 +1,7 @@
 -- `State::after_step` meets its contract. What SETTLE takes next is accepted, so each step does what it does.
-use Rattle.machine.proofs.Settle.{taken, next-accepted}
-use Rattle.machine.specs.Steps.{done}
-use Rattle.machine.specs.Refusals.{refusal}
-use mathlib.Core.Path.{ap, _∙_}
+use mathlib.Core.Path.{ap}
 use borrow.Author.Needs.{needs}
+use Rattle.machine.proofs.Settle.{next-accepted}
 use Rattle.machine.proofs.State.after_step.Statement.{statement}
 use Rattle.machine.proofs.State.after_step.Tie as tie
 
@@ -11,34 +9,31 @@ enum-known-x : tie.Need-enum-known-x
 enum-known-x c = search needs
 
 take-close-requires : tie.Need-take-close-requires
-take-close-requires c κs = c .before .before .before .pre .0
+take-close-requires c κs = (c .before .before .before .pre .0, next-accepted _ _ _ (c .before .before .before .pre .0) (c .before .before .before .pre .1) (c .before .x .given .1))
 
 enum-known-x-2 : tie.Need-enum-known-x-2
 enum-known-x-2 c = search needs
 
 take-deliver-requires : tie.Need-take-deliver-requires
-take-deliver-requires c κs = c .before .before .before .pre .0
+take-deliver-requires c κs = (c .before .before .before .pre .0, next-accepted _ _ _ (c .before .before .before .pre .0) (c .before .before .before .pre .1) (c .before .x2 .given .1))
 
 enum-known-x-3 : tie.Need-enum-known-x-3
 enum-known-x-3 c = search needs
 
 take-carry-requires : tie.Need-take-carry-requires
-take-carry-requires c κs = c .before .before .before .pre .0
+take-carry-requires c κs = (c .before .before .before .pre .0, next-accepted _ _ _ (c .before .before .before .pre .0) (c .before .before .before .pre .1) (c .before .x3 .given .1))
 
 enum-told : tie.Need-enum-told
 enum-told c = search needs
 
 returns : tie.Need-returns
-unfolding refusal done
-returns c = rw (c .before .before .before .x .given .1) (ap (λ r. r .next) (c .before .take-close .ensures ∙ taken _ _ (next-accepted _ _ _ (c .before .before .before .before .before .pre .0) (c .before .before .before .before .before .pre .1) (c .before .before .before .x .given .1))))
+returns c = rw (c .before .before .before .x .given .1) (ap (λ r. r .next) (c .before .take-close .ensures))
 
 returns-2 : tie.Need-returns-2
-unfolding refusal done
-returns-2 c = rw (c .before .before .before .x2 .given .1) (ap (λ r. r .next) (c .before .take-deliver .ensures ∙ taken _ _ (next-accepted _ _ _ (c .before .before .before .before .before .pre .0) (c .before .before .before .before .before .pre .1) (c .before .before .before .x2 .given .1))))
+returns-2 c = rw (c .before .before .before .x2 .given .1) (ap (λ r. r .next) (c .before .take-deliver .ensures))
 
 returns-3 : tie.Need-returns-3
-unfolding refusal done
-returns-3 c = rw (c .before .before .before .x3 .given .1) (ap (λ r. r .next) (c .before .take-carry .ensures ∙ taken _ _ (next-accepted _ _ _ (c .before .before .before .before .before .pre .0) (c .before .before .before .before .before .pre .1) (c .before .before .before .x3 .given .1))))
+returns-3 c = rw (c .before .before .before .x3 .given .1) (ap (λ r. r .next) (c .before .take-carry .ensures))
 
 returns-4 : tie.Need-returns-4
 returns-4 c = rw (c .enum-told .given .1)

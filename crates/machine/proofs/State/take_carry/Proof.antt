@@ -1,34 +1,20 @@
 -- `State::take_carry` meets its contract. With no refusal t is a transaction, the two are sites, and the vote isn't there yet.
-use mathlib.Core.Path.{sym, _∙_}
 use Prim.Native.Nat.{_+_, _*_, _<_}
 use native.Mathlib.Omega.{arith}
-use borrow.Author.Tests.{eq-eqb, ne-eqb}
 use borrow.Author.Needs.{needs}
-use Rattle.machine.specs.Steps.{done, decided}
 use Rattle.machine.specs.Effects.{carryDone}
-use Rattle.machine.specs.Refusals.{refusal}
 use Rattle.machine.proofs.Carry.{Carries, carry-has}
 use Rattle.machine.proofs.Laws.{usable-has}
 use Rattle.machine.proofs.State.take_carry.Statement.{statement}
 use Rattle.machine.proofs.State.take_carry.Tie as tie
 
 -- what the refusal's absence says
-ok : (c : tie.Else1) → Carries (c .before .before .args .t1) (c .before .before .args .t) (c .before .before .args .«from») (c .before .before .args .to)
-ok c = carry-has _ _ _ _ (sym (c .before .carry-refusal .ensures) ∙ c .if1 .left)
+ok : (c : tie.Start) → Carries (c .args .t1) (c .args .t) (c .args .«from») (c .args .to)
+ok c = carry-has _ _ _ _ (c .pre .1)
 
 -- the two cells are in the table
-inside : (c : tie.Else1) → (c .before .before .args .t * 16 + c .before .before .args .«from» < 2048) × (c .before .before .args .t * 16 + c .before .before .args .to < 2048)
-inside c =
-    let u = usable-has _ (c .before .before .pre) in
-    let k = ok c in
-    (omega (arith, k .txn, k .giver, u .txns, u .sites), omega (arith, k .txn, k .taker, u .txns, u .sites))
-
-carry-refusal-requires : tie.Need-carry-refusal-requires
-carry-refusal-requires c κs = search needs
-
-returns : tie.Need-returns
-unfolding decided refusal
-returns c = rw (← c .before .carry-refusal .ensures, ne-eqb _ _ (c .if1 .taken))
+inside : (c : tie.Start) → (c .args .t * 16 + c .args .«from» < 2048) × (c .args .t * 16 + c .args .to < 2048)
+inside c = let u = usable-has _ (c .pre .0) in let k = ok c in (omega (arith, k .txn, k .giver, u .txns, u .sites), omega (arith, k .txn, k .taker, u .txns, u .sites))
 
 mul-at : tie.Need-mul-at
 mul-at c = search needs
@@ -52,24 +38,22 @@ element-copy-out-with-site : tie.Need-element-copy-out-with-site
 element-copy-out-with-site c = inside (c .before) .1
 
 with-site-requires : tie.Need-with-site-requires
-with-site-requires c κs = let k = ok (c .before .before) in (omega (arith, k .giver, usable-has _ (c .before .before .before .before .pre) .sites), k .lacks)
+with-site-requires c κs = let k = ok (c .before .before) in (omega (arith, k .giver, usable-has _ (c .before .before .pre .0) .sites), k .lacks)
 
-mul-next : tie.Need-mul-next
-mul-next c = search needs
+mul-self : tie.Need-mul-self
+mul-self c = search needs
 
-element-write-next : tie.Need-element-write-next
-element-write-next c = inside (c .before .before .before) .1
+element-write-self : tie.Need-element-write-self
+element-write-self c = inside (c .before .before .before) .1
 
-returns-2 : tie.Need-returns-2
-unfolding decided refusal done carryDone
-returns-2 c = rw (← c .before .before .before .before .carry-refusal .ensures, eq-eqb _ _ (c .before .before .before .if1 .left), ← c .with-site .ensures)
+returns : tie.Need-returns
+unfolding carryDone
+returns c = rw (← c .with-site .ensures)
 
 pub take-carry-spec : {M : Type 1} → statement M
 take-carry-spec =
     tie.close
     (tie.spec
-    carry-refusal-requires
-    returns
     mul-at
     add-at
     mul-vote
@@ -78,6 +62,6 @@ take-carry-spec =
     mul-with-site
     element-copy-out-with-site
     with-site-requires
-    mul-next
-    element-write-next
-    returns-2)
+    mul-self
+    element-write-self
+    returns)
