@@ -1,18 +1,15 @@
 """The vector files, and what the second program lists of them.
 
-vectors.py write ORACLE        writes host/vectors anew: files.bin, each file after its length in two bytes,
-                               and listings.txt, what the second program lists of them
-vectors.py check ORACLE        fails where what is stored differs from what would be written
-vectors.py run PROGRAM WORDS   fails where the program's listings of the stored files are not the stored ones
+vectors.py write ORACLE   writes the program's stdin, each file after its length in two bytes, and its stdout anew
+vectors.py check ORACLE   fails where what is stored differs from what would be written
 """
-import concurrent.futures
 import pathlib
 import subprocess
 import sys
 
 KINDS = {"small": 120, "contended": 60, "malformed": 60, "limits": 60, "large": 3}
-FILES = pathlib.Path("host/vectors/files.bin")
-LISTINGS = pathlib.Path("host/vectors/listings.txt")
+FILES = pathlib.Path("crates/vectors/stdin")
+LISTINGS = pathlib.Path("crates/vectors/stdout")
 
 
 def record(tag, body=b""):
@@ -66,28 +63,12 @@ def files(oracle):
             yield subprocess.run([oracle, "generate", kind, str(seed)], check=True, capture_output=True).stdout
 
 
-def listing(words, file):
-    return subprocess.run(words, input=file, check=True, capture_output=True).stdout
-
-
-def stored():
-    data, at = FILES.read_bytes(), 0
-    while at < len(data):
-        length = int.from_bytes(data[at : at + 2], "big")
-        yield data[at + 2 : at + 2 + length]
-        at += 2 + length
-
-
 def main():
-    way, *words = sys.argv[1:]
-    if way == "run":
-        with concurrent.futures.ThreadPoolExecutor(2) as pool:
-            given = b"".join(pool.map(lambda file: listing(words, file), stored()))
-        sys.exit(given != LISTINGS.read_bytes())
+    way, oracle = sys.argv[1:]
     bytes_of, listings = b"", b""
-    for file in files(words[0]):
+    for file in files(oracle):
         bytes_of += len(file).to_bytes(2, "big") + file
-        listings += listing([words[0], "list"], file)
+        listings += subprocess.run([oracle, "list"], input=file, check=True, capture_output=True).stdout
     if way == "write":
         FILES.write_bytes(bytes_of)
         LISTINGS.write_bytes(listings)

@@ -26,3 +26,4 @@ pub mod Protocol
 pub mod Determined
 pub mod Steps
 pub mod File
+pub mod Demands

@@ -213,3 +213,15 @@ most-steps T e t = by (local T t)
     by false =
         let a : all - 1 ≤ 15 = omega (arith, few (concerns T t)) in
         omega (arith, few (concerns T t), mul-le-mul-right (all - 1) (few (votes T t)), a)
+
+-- and of all transactions at most 34,816
+pub most-in-all : (st : State) → judge (st .tables) ≡ 0 → stepsInAll st ≤ 34816
+most-in-all st e = omega (
+  arith,
+  taken (st .tables) e .txns,
+  sum-most (st .tables .txns) 272 (λ t. cond (ltb 0 (placeOf st t)) (stepsOn (st .tables) t) 0) (λ t l. by (ltb 0 (placeOf st t)) (most-steps (st .tables) e t)),
+)
+  where
+    by : (b : Bool) {x : ℕ} → x ≤ 272 → cond b x 0 ≤ 272
+    by true h = h
+    by false h = omega arith

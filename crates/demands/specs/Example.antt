@@ -11,6 +11,8 @@ use Rattle.tables.specs.Sites.{keysFrom}
 use Rattle.tables.specs.Concern.{someIn, allIn, touches, inside, local}
 use Rattle.tables.specs.Judge.{keysRefusal, sizeRefusal, countRefusal, keyRefusal, txnRefusal, someGroup, endRefusal, judge}
 use Rattle.tables.specs.declared.Tables.{Tables}
+use Rattle.steps.specs.Kinds.{version, place}
+use Rattle.steps.specs.declared.Answer.the-variants as answer
 use Rattle.steps.specs.declared.Step.{Step}
 use Rattle.steps.specs.declared.Step.the-variants.{Read, Submit, Deliver, Settle}
 use Rattle.rules.specs.Queue.{headIn, blockedIn, nextIn, submittedIn}
@@ -24,7 +26,7 @@ use Rattle.machine.specs.Effects.{readDone, submitDone, deliverDone, carryDone,
 use Rattle.machine.specs.Settle.{settleFor, settleDone}
 use Rattle.machine.specs.Steps.{done, decided, stepOf}
 use Rattle.machine.specs.Fresh.{startOf, freshOf}
-use Rattle.listing.specs.Run.{endOf}
+use Rattle.listing.specs.Run.{endOf, answersOf}
 use Rattle.onecopy.specs.Copy.{run, chosen}
 use Rattle.demands.specs.View.{slot, whoseIn, copyOf}
 use Rattle.demands.specs.Settle.{stepsOn, doneOn, stepsInAll, stepsDone, stepsTaken}
@@ -64,3 +66,13 @@ unfolding endOf stepsOn doneOn stepsTaken slot whoseIn run chosen
     inRow twice present meets conflictIn someIn allIn touches inside local keysFrom keysRefusal sizeRefusal countRefusal keyRefusal txnRefusal someGroup endRefusal judge noTables
     member within adding anyBelow allBelow sumBelow firstBelow firstOf listFrom
 at-the-end = refl
+
+-- the steps one by one: it accepts, answers differently, goes on after its first step, and the second DELIVER meets a changed state
+answered : answersOf (freshOf tables .state) steps
+    ≡ answer.Read (version 1) 100 ∷ answer.Read (version 1) 200 ∷ answer.Submitted (place 1) ∷ answer.Submitted (place 2) ∷ answer.Delivered 0 1 ∷ answer.Refused 27 ∷ answer.Settled 9 ∷ []
+unfolding answersOf
+    freshOf startOf done decided stepOf firstClosingIn closesFirstIn firstDeliveringIn firstCarriedIn firstFromIn firstToIn todoIn settleFor settleDone readDone submitDone deliverDone carryDone stored committed closeDone
+    readRefusalIn submitRefusalIn deliverRefusalIn voteRefusalIn carryRefusalIn verdictRefusalIn closeRefusalIn refusal countsFit rowFits txnFits txnsFit placesFit usable headIn blockedIn nextIn submittedIn certifyIn coversKey coveredIn allYesIn verdictBy roomIn
+    inRow twice present meets conflictIn someIn allIn touches inside local keysFrom keysRefusal sizeRefusal countRefusal keyRefusal txnRefusal someGroup endRefusal judge noTables
+    member within adding anyBelow allBelow sumBelow firstBelow firstOf listFrom
+answered = refl
