@@ -1,5 +1,5 @@
 # `make test` is the whole gate: the proofs, then the host tests. Its last line is 'N passed, 0 failed'.
-.PHONY: test run fuzz
+.PHONY: test run fuzz bench
 
 N = 1000
 SEED = 1
@@ -18,6 +18,11 @@ fuzz: target/oracle
 	@rt staticlib listing >target/host/staticlib.log 2>&1 || { cat target/host/staticlib.log; exit 1; }
 	@host/cc plain target/host/serve host/harness.c target/staticlib/liblisting.a
 	@target/oracle fuzz --serve $(N) $(SEED) any host/on target/host/serve serve
+
+# Both programs side by side on the same files, in one run.
+bench: target/oracle
+	@rt check pstore >target/bench.log 2>&1 || { cat target/bench.log; exit 1; }
+	@if [ "$$(uname -m)" = x86_64 ]; then on=; else on=host/on; fi; python3 host/bench.py target/oracle $$on target/bin/pstore
 
 target/oracle: $(wildcard oracle/src/*.rs)
 	@mkdir -p target

@@ -1,16 +1,16 @@
 -- Laws.
 -- Assumes nothing.
 use Prim.Native.Nat.{ℕ, zero, suc, _+_, _-_, _*_, _≤_}
-use mathlib.Core.Bool.{true}
+use mathlib.Core.Bool.{Bool, true, false}
 use mathlib.Core.List.{List, [], _∷_, _++_, append-nil, append-assoc}
 use mathlib.Core.Logic.{_⊎_, inl, inr}
-use mathlib.Core.Path.{_≡_, refl, sym, _∙_}
-use native.Mathlib.Nat.{sub-zero}
+use mathlib.Core.Path.{_≡_, refl, _∙_}
 use native.Mathlib.Numerals.{add-one}
 use native.Mathlib.Omega.{arith}
 use lib.ListN.{length}
 use types.Run.{OneOf}
 use denote.Enum.Declared.{tagOf}
+use Rattle.bounded.proofs.Truth.{clash}
 use Rattle.text.specs.Text.{digitsOf}
 use Rattle.text.specs.Wrote.{Wrote}
 use Rattle.text.proofs.Laws.{digits-length, nothing, then}
@@ -24,11 +24,14 @@ use Rattle.records.specs.declared.Record.{Record}
 use Rattle.records.specs.declared.Record.the-variants.{Whole, Short, Cut}
 use Rattle.records.proofs.Laws.{Lies, whole-lies}
 use Rattle.records.proofs.Record as R
-use Rattle.machine.specs.Steps.{stepOf, decided}
+use Rattle.layout.specs.Layout.{theVersions, theValues, theReadVersions, theReadValues, thePlaces, theRecorded, theDelivered, theClosed, theCast}
+use Rattle.search.specs.declared.Todo.the-variants.{Nothing}
 use Rattle.machine.specs.Usable.{usable}
+use Rattle.machine.specs.Settle.{todo}
+use Rattle.machine.specs.Lent.{stateOf, Takes, idleAfter}
 use Rattle.machine.specs.declared.State.{State}
-use Rattle.machine.specs.declared.Stepped.{Stepped}
 use Rattle.machine.proofs.Kept.{step-usable}
+use Rattle.machine.proofs.Idle.{idle-keeps}
 use Rattle.listing.specs.Run.{endOf, answersOf}
 use Rattle.listing.specs.Lines.{stepLine, stepLines}
 use Rattle.listing.proofs.Kept.{step-places, decides}
@@ -59,11 +62,34 @@ steps-end (suc k) s at (Whole tag start len next) e h = absurd (elim h [ inl q �
 steps-end (suc k) s at (Short tag) e h = rw (← e, stepsFrom)
 steps-end (suc k) s at Cut e h = rw (← e, stepsFrom)
 
+-- ---- the lent arrays
+
+-- the state laid out in them is the state that they hold
+pub held : (st : State) (numbers : List ℕ) (flags : List Bool) (marks : List ℕ)
+    → ((theVersions numbers ≡ st .versions) × (theValues numbers ≡ st .values)) × (((theReadVersions numbers ≡ st .readversions) × (theReadValues numbers ≡ st .readvalues)) × (thePlaces numbers ≡ st .places))
+    → (theRecorded flags ≡ st .recorded) × (theDelivered flags ≡ st .delivered) → (theClosed marks ≡ st .closed) × (theCast marks ≡ st .cast)
+    → stateOf (st .tables) numbers flags marks (st .carried) ≡ st
+held st numbers flags marks n f m = λ j. record {
+  tables = st .tables;
+  versions = n .0 .0 j;
+  values = n .0 .1 j;
+  recorded = f .0 j;
+  readversions = n .1 .0 .0 j;
+  readvalues = n .1 .0 .1 j;
+  places = n .1 .1 j;
+  delivered = f .1 j;
+  closed = m .0 j;
+  cast = m .1 j;
+  carried = st .carried;
+}
+
 -- ---- a run
 
 -- where a run of schedule s stands that began at state st₀ with the buffer old and wrote from at on
-pub record Running (s old : List ℕ) (at : ℕ) (st₀ : State) (out : List ℕ) (st : State) (next i pos : ℕ) : Type 0 where
+pub record Running (s old : List ℕ) (at : ℕ) (st₀ : State) (out : List ℕ) (st : State) (idle : Bool) (next i pos : ℕ) : Type 0 where
   pub runs : usable st ≡ true
+  -- what is remembered of SETTLE
+  pub rests : idle ≡ true → todo st ≡ Nothing
   pub placed : length (st .places) ≡ 128
   pub within : pos ≤ length s
   pub few : 3 * i ≤ pos
@@ -77,10 +103,12 @@ pub record Running (s old : List ℕ) (at : ℕ) (st₀ : State) (out : List ℕ
   pub same-end : endOf st (stepsFrom left s pos) ≡ endOf st₀ (stepsOf s)
 
 module _ {s old : List ℕ} {at : ℕ} {st₀ : State} where
-  pub starts : usable st₀ ≡ true → length (st₀ .places) ≡ 128 → Running s old at st₀ old st₀ at 0 0
+  -- no step yet: st is the state that was laid out
+  pub starts : {st : State} → st₀ ≡ st → usable st ≡ true → length (st₀ .places) ≡ 128 → Running s old at st₀ old st₀ false at 0 0
   unfolding stepsOf
-  starts u z = record {
-    runs = u;
+  starts same u z = record {
+    runs = rw same u;
+    rests = λ h. clash h refl;
     placed = z;
     within = omega arith;
     few = omega arith;
@@ -94,42 +122,40 @@ module _ {s old : List ℕ} {at : ℕ} {st₀ : State} where
   }
 
   -- a step more: its line is written
-  pub goes : {out new : List ℕ} {st : State} {next to i pos tag start len after : ℕ} {r : Stepped} → Running s old at st₀ out st next i pos
-      → recordAt s pos ≡ Whole tag start len after → r ≡ decided st (stepBy tag s start)
-      → Wrote out next new to (stepLine i (numbersOf (r .answer))) → to ≤ next + 36 → Running s old at st₀ new (r .next) to (i + 1) after
+  pub goes : {out new : List ℕ} {st st′ : State} {idle idle′ : Bool} {next to i pos tag start len after : ℕ} {x : Step} {a : Answer} → Running s old at st₀ out st idle next i pos
+      → recordAt s pos ≡ Whole tag start len after → x ≡ stepBy tag s start → Takes st x a st′ → idle′ ≡ idleAfter idle a
+      → Wrote out next new to (stepLine i (numbersOf a)) → to ≤ next + 36 → Running s old at st₀ new st′ idle′ to (i + 1) after
   unfolding stepLines answersOf endOf
-  goes {out} {new} {st} {next} {to} {i} {pos} {tag} {start} {len} {after} {r} v e d w b = by (v .left) (v .enough) (v .all-lines) (v .same-end)
+  goes {out} {new} {st} {st′} {idle} {idle′} {next} {to} {i} {pos} {tag} {start} {len} {after} {x} {a} v e q d m w b = by (v .left) (v .enough) (v .all-lines) (v .same-end)
     where
       l : Lies s pos start len after
       l = whole-lies e
 
-      x : Step
-      x = stepBy tag s start
-
-      same : stepOf st x ≡ r
-      same = decides st x (v .runs) ∙ sym d
+      go : (k : ℕ) → stepsFrom (suc k) s pos ≡ x ∷ stepsFrom k s after
+      go k = rw q (steps-go k s pos tag start len after e)
 
       by : (k : ℕ) → length s - pos ≤ k → v .lines ++ stepLines i (answersOf st (stepsFrom k s pos)) ≡ stepLines 0 (answersOf st₀ (stepsOf s))
-          → endOf st (stepsFrom k s pos) ≡ endOf st₀ (stepsOf s) → Running s old at st₀ new (r .next) to (i + 1) after
-      by zero h p q = absurd (omega (arith, l))
-      by (suc k) h p q = record {
-        runs = rw d (step-usable st x (v .placed) (v .runs));
-        placed = rw d (step-places st x ∙ v .placed);
+          → endOf st (stepsFrom k s pos) ≡ endOf st₀ (stepsOf s) → Running s old at st₀ new st′ idle′ to (i + 1) after
+      by zero h p f = absurd (omega (arith, l))
+      by (suc k) h p f = record {
+        runs = rw (d .1) (step-usable st x (v .placed) (v .runs));
+        rests = λ h. rw (d .1) (idle-keeps idle st x (v .rests) (rw (m, d .0) at h));
+        placed = rw (d .1) (step-places st x ∙ v .placed);
         within = l .within;
         few = omega (arith, l, v .few);
         short = omega (arith, l, v .short);
-        lines = v .lines ++ stepLine i (numbersOf (r .answer));
+        lines = v .lines ++ stepLine i (numbersOf a);
         wrote = then (v .wrote) w;
         left = k;
         enough = omega (arith, l);
-        all-lines = rw (add-one, append-assoc) (rw (steps-go k s pos tag start len after e, answersOf, same, stepLines) at p);
-        same-end = rw (steps-go k s pos tag start len after e, endOf, same) at q;
+        all-lines = rw (add-one, append-assoc) (rw (go k, answersOf, decides st x (v .runs), ← d .0, ← d .1, stepLines) at p);
+        same-end = rw (go k, endOf, decides st x (v .runs), ← d .1) at f;
       }
 
-  -- no step more
-  pub ends : {out : List ℕ} {st : State} {next i pos : ℕ} → (v : Running s old at st₀ out st next i pos) (r : Record) → r ≡ recordAt s pos → OneOf (1 ∷ 2 ∷ []) (tagOf R.the-type r)
-      → (st ≡ endOf st₀ (stepsOf s)) × Wrote old at out next (stepLines 0 (answersOf st₀ (stepsOf s)))
+  -- no step more: st₁ is the state that was laid out, st′ the one given back
+  pub ends : {out : List ℕ} {st st′ st₁ : State} {idle : Bool} {next i pos : ℕ} → st₀ ≡ st₁ → st′ ≡ st → Running s old at st₀ out st idle next i pos → (r : Record) → r ≡ recordAt s pos → OneOf (1 ∷ 2 ∷ []) (tagOf R.the-type r)
+      → (st′ ≡ endOf st₁ (stepsOf s)) × (Wrote old at out next (stepLines 0 (answersOf st₁ (stepsOf s))) × (next ≤ at + 12 * length s))
   unfolding stepLines answersOf endOf
-  ends {out} {st} {next} {i} {pos} v r e h =
+  ends {out} {st} {st′} {st₁} {idle} {next} {i} {pos} same given v r e h =
       let none = steps-end (v .left) s pos r e h in
-      (rw none at (v .same-end), rw (← (rw (none, append-nil) at (v .all-lines))) (v .wrote))
+      rw (← same) (given ∙ (rw none at (v .same-end)), (rw (← (rw (none, append-nil) at (v .all-lines))) (v .wrote), omega (arith, v .short, v .within)))

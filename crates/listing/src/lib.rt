@@ -54,7 +54,13 @@ fn run(st: State, schedule: &[u8], out: &mut [u8], at: usize) -> Ran
     ensures { λ r. ⌜ Wrote (now (out .entry)) at (now (out .exit)) (r .next) (stepLines 0 (answersOf st (stepsOf (now (schedule .entry))))) ⌝ }
     ensures { λ r. ⌜ r .next ≤ at + 12 * length (now (schedule .entry)) ⌝ }
 {
-    let mut state = st;
+    let tables = st.tables;
+    let plan = plan::plan_of(tables);
+    let mut numbers = st.numbers();
+    let mut flags = layout::flags_of(&st.recorded, &st.delivered);
+    let mut marks = layout::marks_of(&st.closed, &st.cast);
+    let mut carried = st.carried;
+    let mut idle = false;
     let mut next = at;
     let mut i: u32 = 0;
     let mut pos: usize = 0;
@@ -67,11 +73,20 @@ fn run(st: State, schedule: &[u8], out: &mut [u8], at: usize) -> Ran
             next: after,
         } = found
         else {
+            let state = machine::state_of(tables, &numbers, &flags, &marks, carried);
             return Ran { state, next };
         };
-        let done = state.take(records::step_by(tag, schedule, start));
-        let answer = done.answer;
-        state = done.next;
+        let x = records::step_by(tag, schedule, start);
+        let answer = machine::take_next(
+            &plan,
+            &mut numbers,
+            &mut flags,
+            &mut marks,
+            &mut carried,
+            idle,
+            x,
+        );
+        idle = machine::idle_after(idle, answer);
         next = put_step(out, next, i, answer);
         i += 1;
         pos = after;
@@ -160,18 +175,24 @@ fn put_items(
 }
 
 // The items of each site.
-fn put_sites(st: State, out: &mut [u8], at: usize) -> usize
-    requires { ⌜ (usable st ≡ true) × (at + 50176 < 2 ^ 64) ⌝ }
-    ensures { λ r. ⌜ Wrote (now (out .entry)) at (now (out .exit)) r (each (siteCount (st .tables)) (λ s. itemLines (st .versions) (st .values) (siteKeys (st .tables) s) (st .tables .keys) s)) ⌝ }
+fn put_sites(
+    tables: Tables,
+    versions: [Version; 1024],
+    values: &[u32; 1024],
+    out: &mut [u8],
+    at: usize,
+) -> usize
+    requires { ⌜ (tables .groups ≤ 8) × ((siteCount tables ≤ 16) × (tables .keys ≤ 64)) ⌝ }
+    requires { ⌜ at + 50176 < 2 ^ 64 ⌝ }
+    ensures { λ r. ⌜ Wrote (now (out .entry)) at (now (out .exit)) r (each (siteCount tables) (λ s. itemLines versions (now (values .entry)) (siteKeys tables s) (tables .keys) s)) ⌝ }
     ensures { λ r. ⌜ r ≤ at + 50176 ⌝ }
 {
-    let n = tables::sites_in(&st.tables.sizes, st.tables.groups);
+    let n = tables::sites_in(&tables.sizes, tables.groups);
     let mut next = at;
     let mut s: usize = 0;
     while s < n {
-        let m = tables::site_keys(&st.tables.sizes, &st.tables.masks, st.tables.groups, s);
-        let versions = st.versions;
-        next = put_items(versions, &st.values, m, st.tables.keys, s, out, next);
+        let m = tables::site_keys(&tables.sizes, &tables.masks, tables.groups, s);
+        next = put_items(versions, values, m, tables.keys, s, out, next);
         s += 1;
     }
     next
@@ -186,7 +207,9 @@ fn put_state(st: State, out: &mut [u8], at: usize) -> usize
     let sites = tables::sites_in(&st.tables.sizes, st.tables.groups);
     let places = st.places;
     let next = put_txns(places, &st.closed, sites, st.tables.txns, out, at);
-    put_sites(st, out, next)
+    let tables = st.tables;
+    let versions = st.versions;
+    put_sites(tables, versions, &st.values, out, next)
 }
 
 // ---- the listing

@@ -152,7 +152,7 @@ after-sized st (Deliver s) z = record { delivered = length-set (st .delivered) _
 after-sized st (Carry t from to) z = record { delivered = z .delivered; closed = z .closed; carried = length-set (st .carried) _ _ ∙ z .carried }
 after-sized st Nothing z = z
 
-is-nothing : (x : Todo) → (x ≡ Nothing) ⊎ (x ≡ Nothing → ⊥)
+pub is-nothing : (x : Todo) → (x ≡ Nothing) ⊎ (x ≡ Nothing → ⊥)
 is-nothing (Close t s) = inr (λ e. absurd (let q : _≡_ {A = ℕ} 0 1 = cc in omega arith))
 is-nothing (Deliver s) = inr (λ e. absurd (let q : _≡_ {A = ℕ} 0 1 = cc in omega arith))
 is-nothing (Carry t from to) = inr (λ e. absurd (let q : _≡_ {A = ℕ} 0 1 = cc in omega arith))

@@ -10,8 +10,8 @@ use Rattle.bounded.proofs.Laws.{all-get}
 use Rattle.tables.specs.Lists.{rowAt, present, twice, readCount, writeCount}
 use Rattle.tables.specs.Sites.{sitesIn, siteCount}
 use Rattle.rules.specs.Cells.{placeIn}
-use Rattle.rules.specs.Queue.{Short}
-use Rattle.refusals.specs.Refusals.{Fits}
+use Rattle.tables.specs.Fits.{Short}
+use Rattle.tables.specs.Fits.{Fits}
 use Rattle.rules.specs.Fit.{countsFit, rowFits, txnFits, txnsFit, placesFit}
 use mathlib.Core.List.{List}
 use Rattle.machine.specs.Parts.{placeOf}

@@ -6,3 +6,4 @@ pub mod Effects
 pub mod Settle
 pub mod Steps
 pub mod Fresh
+pub mod Lent

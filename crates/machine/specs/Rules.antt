@@ -3,7 +3,7 @@ use Prim.Native.Nat.{ℕ}
 use mathlib.Core.Bool.{Bool}
 use Rattle.rules.specs.Queue.{queuedIn, headIn, submittedIn}
 use Rattle.rules.specs.Votes.{holdsVote}
-use Rattle.refusals.specs.Refusals.{nextOf, blockedOf, voteIn, verdictAt, roomOf}
+use Rattle.rules.specs.Asked.{nextOf, blockedOf, voteIn, verdictAt, roomOf}
 use Rattle.machine.specs.Parts.{castBy, carriedTo}
 use Rattle.machine.specs.declared.State.{State}
 

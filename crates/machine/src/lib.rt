@@ -1,20 +1,22 @@
 // The machine: the state of all sites, the steps of the protocol and their answers.
 ghost use mathlib.Core.Path.{_≡_};
-ghost use mathlib.Core.Bool.{true, cond};
-ghost use Prim.Native.Nat.{_≤_, _<_};
-ghost use lib.Dec.{eqb};
+ghost use mathlib.Core.Bool.{Bool, true, cond};
+ghost use mathlib.Core.List.{List};
+ghost use Prim.Native.Nat.{ℕ, _≤_, _<_};
 ghost use Rattle.keys.specs.Keys.{member};
-ghost use Rattle.tables.specs.Sites.{siteCount};
-ghost use Rattle.machine.specs.Rules.{roomAt};
+ghost use Rattle.tables.specs.declared.Tables.{Tables};
+ghost use Rattle.plan.specs.Plan.{txnsOf, sitesOf, Laid, Plan};
+ghost use Rattle.layout.specs.Layout.{theVersions, theValues, theReadVersions, theReadValues, thePlaces};
+ghost use Rattle.machine.specs.Parts.{withDelivery};
+ghost use Rattle.machine.specs.Rules.{voteOf, verdict, roomAt};
 ghost use Rattle.machine.specs.Usable.{usable};
-ghost use Rattle.machine.specs.Refusals.{readRefusal, submitRefusal, deliverRefusal, carryRefusal, closeRefusal, refusal};
-ghost use Rattle.machine.specs.Effects.{readDone, submitDone, deliverDone, carryDone, committed, closeDone};
-ghost use Rattle.search.specs.Known.{Knows};
-ghost use Rattle.machine.specs.Settle.{partsOf, todo, after, settleDone};
+ghost use Rattle.machine.specs.Refusals.{closeRefusal};
+ghost use Rattle.machine.specs.Effects.{committed, closeDone};
+ghost use Rattle.machine.specs.Settle.{todo, settleDone};
+ghost use Rattle.search.specs.declared.Todo.the-variants.{Nothing};
 ghost use Rattle.machine.specs.Steps.{decided, stepOf};
+ghost use Rattle.machine.specs.Lent.{stateOf, Ready, Planned, Runs, Takes, idleAfter};
 ghost use Rattle.machine.specs.Fresh.{startOf, freshOf};
-use search::Known;
-use search::Next;
 use search::Todo;
 use steps::Answer;
 use steps::Place;
@@ -55,6 +57,314 @@ pub struct Fresh {
     pub state: State,
 }
 
+// ---- a step in lent arrays: the plan of the tables, numbers, flags, marks and the votes carried
+
+// The state that they hold.
+pub fn state_of<'a>(
+    tables: Tables,
+    numbers: &'a [u32; 4224],
+    flags: &'a [bool; 3072],
+    marks: &'a [u8; 4096],
+    carried: [u16; 2048],
+) -> State
+    ensures { λ r. ⌜ r ≡ stateOf tables (now (numbers .entry)) (now (flags .entry)) (now (marks .entry)) carried ⌝ }
+{
+    let versions = layout::versions_from(numbers, 0);
+    let values = layout::values_from(numbers, 1024);
+    let recorded = layout::recorded_from(flags);
+    let readversions = layout::versions_from(numbers, 2048);
+    let readvalues = layout::values_from(numbers, 3072);
+    let places = layout::places_from(numbers);
+    let delivered = layout::delivered_from(flags);
+    let closed = layout::marks_from(marks, 0);
+    let cast = layout::marks_from(marks, 2048);
+    State {
+        tables,
+        versions,
+        values,
+        recorded,
+        readversions,
+        readvalues,
+        places,
+        delivered,
+        closed,
+        cast,
+        carried,
+    }
+}
+
+// READ: records the version and value of t's i-th read key at s.
+fn take_read<'a, 'b>(
+    plan: &'a [u64; 3666],
+    numbers: &'b mut [u32; 4224],
+    flags: &'b mut [bool; 3072],
+    t: u8,
+    i: u8,
+    s: u8,
+) -> Answer
+    requires { ⌜ Planned (now plan) ⌝ }
+    ensures { λ r. ⌜ ((T : Tables) (marks carried : List ℕ) → Plan T (now (plan .entry)) → Takes (stateOf T (now (numbers .entry)) (now (flags .entry)) marks carried) (Step.Read t i s) r (stateOf T (now (numbers .exit)) (now (flags .exit)) marks carried)) ⌝ }
+{
+    let n = refusals::read_refusal(plan, flags, t, i, s);
+    if n != 0 {
+        return Answer::Refused(n);
+    }
+    let at = wide(t) * 8 + wide(i);
+    let from = wide(s) * 64 + wide(plan::read_key(plan, wide(t), wide(i)));
+    let version = numbers[from];
+    let value = numbers[1024 + from];
+    layout::put_flag(flags, at);
+    layout::put_number(numbers, 2048 + at, version);
+    layout::put_number(numbers, 3072 + at, value);
+    Answer::Read(Version(version), value)
+}
+
+// SUBMIT: gives t the next place.
+fn take_submit<'a, 'b>(
+    plan: &'a [u64; 3666],
+    numbers: &'b mut [u32; 4224],
+    flags: &'a [bool; 3072],
+    t: u8,
+) -> Answer
+    requires { ⌜ Planned (now plan) ⌝ }
+    ensures { λ r. ⌜ ((T : Tables) (marks carried : List ℕ) → Plan T (now (plan .entry)) → Takes (stateOf T (now (numbers .entry)) (now (flags .entry)) marks carried) (Step.Submit t) r (stateOf T (now (numbers .exit)) (now (flags .entry)) marks carried)) ⌝ }
+{
+    let n = refusals::submit_refusal(plan, numbers, flags, t);
+    if n != 0 {
+        return Answer::Refused(n);
+    }
+    let place = rules::submitted(plan, numbers) + 1;
+    layout::put_number(numbers, 4096 + wide(t), place);
+    Answer::Submitted(Place(place))
+}
+
+// Puts t into the queue of s, with the vote of s, which is the answer.
+fn deliver_at<'a, 'b>(
+    plan: &'a [u64; 3666],
+    numbers: &'a [u32; 4224],
+    flags: &'b mut [bool; 3072],
+    marks: &'b mut [u8; 4096],
+    t: usize,
+    s: usize,
+) -> u8
+    requires { ⌜ Laid (now plan) ⌝ }
+    requires { ⌜ (t < txnsOf (now plan)) × (s < 16) ⌝ }
+    ensures { λ r. ⌜ ((T : Tables) (carried : List ℕ) → Plan T (now (plan .entry)) → (r ≡ voteOf (stateOf T (now (numbers .entry)) (now (flags .entry)) (now (marks .entry)) carried) t s) × (stateOf T (now (numbers .entry)) (now (flags .exit)) (now (marks .exit)) carried ≡ withDelivery (stateOf T (now (numbers .entry)) (now (flags .entry)) (now (marks .entry)) carried) t s r)) ⌝ }
+{
+    let vote = rules::vote(plan, numbers, flags, t, s);
+    layout::put_flag(flags, 1024 + t * 16 + s);
+    layout::put_mark(marks, 2048 + t * 16 + s, vote);
+    vote
+}
+
+// DELIVER: the next at s.
+fn take_deliver<'a, 'b>(
+    plan: &'a [u64; 3666],
+    numbers: &'a [u32; 4224],
+    flags: &'b mut [bool; 3072],
+    marks: &'b mut [u8; 4096],
+    s: u8,
+) -> Answer
+    requires { ⌜ Planned (now plan) ⌝ }
+    ensures { λ r. ⌜ ((T : Tables) (carried : List ℕ) → Plan T (now (plan .entry)) → Takes (stateOf T (now (numbers .entry)) (now (flags .entry)) (now (marks .entry)) carried) (Step.Deliver s) r (stateOf T (now (numbers .entry)) (now (flags .exit)) (now (marks .exit)) carried)) ⌝ }
+{
+    let n = refusals::deliver_refusal(plan, numbers, flags, marks, s);
+    if n != 0 {
+        return Answer::Refused(n);
+    }
+    let t = rules::next_at(plan, numbers, flags, wide(s));
+    let vote = deliver_at(plan, numbers, flags, marks, wide(t), wide(s));
+    Answer::Delivered { t, vote }
+}
+
+// CARRY: hands the vote of from on t to to.
+fn take_carry<'a, 'b>(
+    plan: &'a [u64; 3666],
+    marks: &'a [u8; 4096],
+    carried: &'b mut [u16; 2048],
+    t: u8,
+    from: u8,
+    to: u8,
+) -> Answer
+    requires { ⌜ Planned (now plan) ⌝ }
+    ensures { λ r. ⌜ ((T : Tables) (numbers : List ℕ) (flags : List Bool) → Plan T (now (plan .entry)) → Takes (stateOf T numbers flags (now (marks .entry)) (now (carried .entry))) (Step.Carry t «from» to) r (stateOf T numbers flags (now (marks .entry)) (now (carried .exit)))) ⌝ }
+{
+    let n = refusals::carry_refusal(plan, marks, carried, t, from, to);
+    if n != 0 {
+        return Answer::Refused(n);
+    }
+    rules::hand(carried, wide(t) * 16 + wide(to), wide(from));
+    Answer::Carried(marks[2048 + wide(t) * 16 + wide(from)])
+}
+
+// A commit of t at s: each key that it writes there has the next version and the value.
+fn commit<'a, 'b>(plan: &'a [u64; 3666], numbers: &'b mut [u32; 4224], t: usize, s: usize)
+    requires { ⌜ ((T : Tables) × ((flags : List Bool) × ((marks : List ℕ) × ((carried : List ℕ) × (Ready (stateOf T (now numbers) flags marks carried) (now plan) × (roomAt (stateOf T (now numbers) flags marks carried) t s ≡ true)))))) ⌝ }
+    requires { ⌜ (t < txnsOf (now plan)) × (s < sitesOf (now plan)) ⌝ }
+    ensures { λ _. ⌜ ((T : Tables) (flags : List Bool) (marks carried : List ℕ) → Ready (stateOf T (now (numbers .entry)) flags marks carried) (now (plan .entry)) → stateOf T (now (numbers .exit)) flags marks carried ≡ committed (stateOf T (now (numbers .entry)) flags marks carried) t s) ⌝ }
+{
+    let m = plan::site_set(plan, s);
+    let n = plan::writes(plan, t);
+    let mut i: usize = 0;
+    while i < n {
+        let k = plan::write_key(plan, t, i);
+        let x = plan::given(plan, t, i);
+        i += 1;
+        if keys::has_key(m, k) {
+            let at = s * 64 + wide(k);
+            let version = numbers[at];
+            layout::put_number(numbers, at, version + 1);
+            layout::put_number(numbers, 1024 + at, x);
+        }
+    }
+}
+
+// Closes t at s by its verdict, which is the answer.
+fn close_at<'a, 'b>(
+    plan: &'a [u64; 3666],
+    numbers: &'b mut [u32; 4224],
+    flags: &'a [bool; 3072],
+    marks: &'b mut [u8; 4096],
+    carried: &'a [u16; 2048],
+    t: usize,
+    s: usize,
+) -> u8
+    requires { ⌜ ((T : Tables) × (Ready (stateOf T (now numbers) (now flags) (now marks) (now carried)) (now plan) × (closeRefusal (stateOf T (now numbers) (now flags) (now marks) (now carried)) t s ≡ 0))) ⌝ }
+    ensures { λ r. ⌜ ((T : Tables) → Ready (stateOf T (now (numbers .entry)) (now (flags .entry)) (now (marks .entry)) (now (carried .entry))) (now (plan .entry)) → closeRefusal (stateOf T (now (numbers .entry)) (now (flags .entry)) (now (marks .entry)) (now (carried .entry))) t s ≡ 0 → (r ≡ verdict (stateOf T (now (numbers .entry)) (now (flags .entry)) (now (marks .entry)) (now (carried .entry))) t s) × (stateOf T (now (numbers .exit)) (now (flags .entry)) (now (marks .exit)) (now (carried .entry)) ≡ closeDone (stateOf T (now (numbers .entry)) (now (flags .entry)) (now (marks .entry)) (now (carried .entry))) t s .next)) ⌝ }
+{
+    let verdict = rules::verdict(plan, marks, carried, t, s);
+    if verdict == 1 {
+        commit(plan, numbers, t, s);
+    }
+    layout::put_mark(marks, t * 16 + s, verdict);
+    verdict
+}
+
+// CLOSE: t at s.
+fn take_close<'a, 'b>(
+    plan: &'a [u64; 3666],
+    numbers: &'b mut [u32; 4224],
+    flags: &'a [bool; 3072],
+    marks: &'b mut [u8; 4096],
+    carried: &'a [u16; 2048],
+    t: u8,
+    s: u8,
+) -> Answer
+    requires { ⌜ Runs (now numbers) (now flags) (now marks) (now carried) (now plan) ⌝ }
+    ensures { λ r. ⌜ ((T : Tables) → Ready (stateOf T (now (numbers .entry)) (now (flags .entry)) (now (marks .entry)) (now (carried .entry))) (now (plan .entry)) → Takes (stateOf T (now (numbers .entry)) (now (flags .entry)) (now (marks .entry)) (now (carried .entry))) (Step.Close t s) r (stateOf T (now (numbers .exit)) (now (flags .entry)) (now (marks .exit)) (now (carried .entry)))) ⌝ }
+{
+    let n = refusals::close_refusal(plan, numbers, flags, marks, carried, t, s);
+    if n != 0 {
+        return Answer::Refused(n);
+    }
+    Answer::Closed(close_at(plan, numbers, flags, marks, carried, wide(t), wide(s)))
+}
+
+// SETTLE: the first step accepted among CLOSE, DELIVER and CARRY, until none is; the answer is how many.
+fn take_settle<'a, 'b>(
+    plan: &'a [u64; 3666],
+    numbers: &'b mut [u32; 4224],
+    flags: &'b mut [bool; 3072],
+    marks: &'b mut [u8; 4096],
+    carried: &'b mut [u16; 2048],
+) -> u32
+    requires { ⌜ Runs (now numbers) (now flags) (now marks) (now carried) (now plan) ⌝ }
+    ensures { λ r. ⌜ ((T : Tables) → Ready (stateOf T (now (numbers .entry)) (now (flags .entry)) (now (marks .entry)) (now (carried .entry))) (now (plan .entry)) → (Answer.Settled r ≡ settleDone (stateOf T (now (numbers .entry)) (now (flags .entry)) (now (marks .entry)) (now (carried .entry))) .answer) × ((stateOf T (now (numbers .exit)) (now (flags .exit)) (now (marks .exit)) (now (carried .exit))) ≡ settleDone (stateOf T (now (numbers .entry)) (now (flags .entry)) (now (marks .entry)) (now (carried .entry))) .next)) ⌝ }
+{
+    let order = search::order_of(plan, numbers);
+    let mut known = search::first_known();
+    let mut n: u32 = 0;
+    while n < 34816 {
+        let next = search::next_step(plan, &order, numbers, flags, marks, carried, &mut known);
+        let todo = next.todo;
+        match todo {
+            Todo::Close { t, s } => {
+                let _ = close_at(plan, numbers, flags, marks, carried, wide(t), wide(s));
+                search::after_close(&order, flags, marks, &mut known, wide(s));
+                n += 1;
+            }
+            Todo::Deliver(s) => {
+                let at = next.at;
+                let t = search::at(&order, at as usize);
+                let _ = deliver_at(plan, numbers, flags, marks, t, wide(s));
+                search::after_deliver(plan, carried, &mut known, t, wide(s), at);
+                n += 1;
+            }
+            Todo::Carry { t, from: _, to: _ } => {
+                n += search::carry_on(
+                    plan,
+                    &order,
+                    numbers,
+                    flags,
+                    marks,
+                    carried,
+                    &mut known,
+                    wide(t),
+                    34816 - n,
+                );
+            }
+            Todo::Nothing => {
+                return n;
+            }
+        }
+    }
+    n
+}
+
+pub fn take_in<'a, 'b>(
+    plan: &'a [u64; 3666],
+    numbers: &'b mut [u32; 4224],
+    flags: &'b mut [bool; 3072],
+    marks: &'b mut [u8; 4096],
+    carried: &'b mut [u16; 2048],
+    x: Step,
+) -> Answer
+    requires { ⌜ Runs (now numbers) (now flags) (now marks) (now carried) (now plan) ⌝ }
+    ensures { λ r. ⌜ ((T : Tables) → Ready (stateOf T (now (numbers .entry)) (now (flags .entry)) (now (marks .entry)) (now (carried .entry))) (now (plan .entry)) → Takes (stateOf T (now (numbers .entry)) (now (flags .entry)) (now (marks .entry)) (now (carried .entry))) x r (stateOf T (now (numbers .exit)) (now (flags .exit)) (now (marks .exit)) (now (carried .exit)))) ⌝ }
+{
+    match x {
+        Step::Read { t, i, s } => take_read(plan, numbers, flags, t, i, s),
+        Step::Submit(t) => take_submit(plan, numbers, flags, t),
+        Step::Deliver(s) => take_deliver(plan, numbers, flags, marks, s),
+        Step::Carry { t, from, to } => take_carry(plan, marks, carried, t, from, to),
+        Step::Close { t, s } => take_close(plan, numbers, flags, marks, carried, t, s),
+        Step::Settle => Answer::Settled(take_settle(plan, numbers, flags, marks, carried)),
+    }
+}
+
+// The same, where SETTLE may be known to have nothing to do.
+pub fn take_next<'a, 'b>(
+    plan: &'a [u64; 3666],
+    numbers: &'b mut [u32; 4224],
+    flags: &'b mut [bool; 3072],
+    marks: &'b mut [u8; 4096],
+    carried: &'b mut [u16; 2048],
+    idle: bool,
+    x: Step,
+) -> Answer
+    requires { ⌜ Runs (now numbers) (now flags) (now marks) (now carried) (now plan) ⌝ }
+    ensures { λ r. ⌜ ((T : Tables) → Ready (stateOf T (now (numbers .entry)) (now (flags .entry)) (now (marks .entry)) (now (carried .entry))) (now (plan .entry)) → (idle ≡ true → todo (stateOf T (now (numbers .entry)) (now (flags .entry)) (now (marks .entry)) (now (carried .entry))) ≡ Nothing) → Takes (stateOf T (now (numbers .entry)) (now (flags .entry)) (now (marks .entry)) (now (carried .entry))) x r (stateOf T (now (numbers .exit)) (now (flags .exit)) (now (marks .exit)) (now (carried .exit)))) ⌝ }
+{
+    if idle {
+        if let Step::Settle = x {
+            return Answer::Settled(0);
+        }
+    }
+    take_in(plan, numbers, flags, marks, carried, x)
+}
+
+// Whether SETTLE is known to have nothing to do after such an answer.
+pub fn idle_after(idle: bool, answer: Answer) -> bool
+    ensures { λ r. ⌜ r ≡ idleAfter idle answer ⌝ }
+{
+    match answer {
+        Answer::Settled(n) => n < 34816,
+        Answer::Refused(_) => idle,
+        Answer::Read(_, _) => idle,
+        _ => false,
+    }
+}
+
 // The first value x of key k, where it is in the set m; else 0.
 fn held_value(m: u64, k: usize, x: u32) -> u32
     requires { ⌜ k < 64 ⌝ }
@@ -92,287 +402,38 @@ impl State {
         false
     }
 
-    // The number that refuses x, 0 where it is accepted.
-    fn refusal(self, x: Step) -> u8
-        requires { ⌜ usable self ≡ true ⌝ }
-        ensures { λ r. ⌜ r ≡ refusal self x ⌝ }
+    // Its numbers, to be lent.
+    pub fn numbers(self) -> [u32; 4224]
+        ensures { λ r. ⌜ (theVersions r ≡ self .versions) × (theValues r ≡ self .values) ⌝ }
+        ensures { λ r. ⌜ (theReadVersions r ≡ self .readversions) × (theReadValues r ≡ self .readvalues) ⌝ }
+        ensures { λ r. ⌜ thePlaces r ≡ self .places ⌝ }
     {
-        let tables = self.tables;
-        let places = self.places;
-        match x {
-            Step::Read { t, i, s } => refusals::read_refusal(tables, &self.recorded, t, i, s),
-            Step::Submit(t) => refusals::submit_refusal(tables, places, &self.recorded, t),
-            Step::Deliver(s) => {
-                refusals::deliver_refusal(tables, places, &self.delivered, &self.closed, s)
-            }
-            Step::Carry { t, from, to } => {
-                refusals::carry_refusal(tables, &self.cast, &self.carried, t, from, to)
-            }
-            Step::Close { t, s } => {
-                let versions = self.versions;
-                refusals::close_refusal(
-                    tables,
-                    versions,
-                    places,
-                    &self.delivered,
-                    &self.closed,
-                    &self.cast,
-                    &self.carried,
-                    t,
-                    s,
-                )
-            }
-            Step::Settle => 0,
-        }
-    }
-
-    // ---- what an accepted step does
-
-    // Records the version and value of t's i-th read key at s.
-    fn take_read(mut self, t: u8, i: u8, s: u8) -> Stepped
-        requires { ⌜ (usable self ≡ true) × (readRefusal self t i s ≡ 0) ⌝ }
-        ensures { λ r. ⌜ r ≡ readDone self t i s ⌝ }
-    {
-        let at = t as usize;
-        let read = i as usize;
-        let k = tables::key_at(&self.tables.reads, at, read);
-        let from = s as usize * 64 + wide(k);
-        let version = self.versions[from];
-        let value = self.values[from];
-        self.recorded[at * 8 + read] = true;
-        self.readversions[at * 8 + read] = version;
-        self.readvalues[at * 8 + read] = value;
-        Stepped {
-            answer: Answer::Read(version, value),
-            next: self,
-        }
-    }
-
-    // Gives t the next place.
-    fn take_submit(mut self, t: u8) -> Stepped
-        requires { ⌜ (usable self ≡ true) × (submitRefusal self t ≡ 0) ⌝ }
-        ensures { λ r. ⌜ r ≡ submitDone self t ⌝ }
-    {
-        let places = self.places;
-        let place = rules::submitted(places, self.tables.txns) + 1;
-        self.places[t as usize] = Place(place);
-        Stepped {
-            answer: Answer::Submitted(Place(place)),
-            next: self,
-        }
-    }
-
-    // Puts the next into the queue of s, with the vote of s.
-    fn take_deliver(mut self, s: u8) -> Stepped
-        requires { ⌜ (usable self ≡ true) × (deliverRefusal self s ≡ 0) ⌝ }
-        ensures { λ r. ⌜ r ≡ deliverDone self s ⌝ }
-    {
-        let site = s as usize;
-        let tables = self.tables;
-        let places = self.places;
-        let t = refusals::next_at(tables, places, &self.delivered, site);
-        let at = t as usize;
         let versions = self.versions;
-        let read = self.readversions;
-        let vote = refusals::vote(tables, versions, read, &self.recorded, at, site);
-        self.delivered[at * 16 + site] = true;
-        self.cast[at * 16 + site] = vote;
-        Stepped {
-            answer: Answer::Delivered { t, vote },
-            next: self,
-        }
-    }
-
-    // Hands the vote of from on t to to.
-    fn take_carry(mut self, t: u8, from: u8, to: u8) -> Stepped
-        requires { ⌜ (usable self ≡ true) × (carryRefusal self t «from» to ≡ 0) ⌝ }
-        ensures { λ r. ⌜ r ≡ carryDone self t «from» to ⌝ }
-    {
-        let f = from as usize;
-        let at = t as usize * 16 + to as usize;
-        let vote = self.cast[t as usize * 16 + f];
-        let carried = keys::with_site(self.carried[at], f);
-        self.carried[at] = carried;
-        Stepped {
-            answer: Answer::Carried(vote),
-            next: self,
-        }
-    }
-
-    // The stores after a commit of t at s.
-    fn commit(self, t: usize, s: usize) -> State
-        requires { ⌜ usable self ≡ true ⌝ }
-        requires { ⌜ (t < self .tables .txns) × (s < siteCount (self .tables)) ⌝ }
-        requires { ⌜ roomAt self t s ≡ true ⌝ }
-        ensures { λ r. ⌜ r ≡ committed self t s ⌝ }
-    {
-        let m = tables::site_keys(
-            &self.tables.sizes,
-            &self.tables.masks,
-            self.tables.groups,
-            s,
-        );
-        let n = tables::count_at(&self.tables.nwrites, t);
-        let mut next = self;
-        let mut i: usize = 0;
-        while i < n {
-            let k = tables::key_at(&self.tables.writes, t, i);
-            let x = tables::value_at(&self.tables.gives, t, i);
-            i += 1;
-            if keys::has_key(m, k) {
-                let j = s * 64 + wide(k);
-                let Version(v) = self.versions[j];
-                next.versions[j] = Version(v + 1);
-                next.values[j] = x;
-            }
-        }
-        next
-    }
-
-    // The state after a commit of t at s, where that is the verdict.
-    fn stores(self, t: usize, s: usize, verdict: u8) -> State
-        requires { ⌜ usable self ≡ true ⌝ }
-        requires { ⌜ (t < self .tables .txns) × (s < siteCount (self .tables)) ⌝ }
-        requires { ⌜ (verdict ≡ 1 → roomAt self t s ≡ true) ⌝ }
-        ensures { λ r. ⌜ r ≡ cond (eqb verdict 1) (committed self t s) self ⌝ }
-    {
-        if verdict == 1 {
-            return self.commit(t, s);
-        }
-        self
-    }
-
-    // Closes t at s by its verdict.
-    fn take_close(self, t: u8, s: u8) -> Stepped
-        requires { ⌜ (usable self ≡ true) × (closeRefusal self t s ≡ 0) ⌝ }
-        ensures { λ r. ⌜ r ≡ closeDone self t s ⌝ }
-    {
-        let at = t as usize;
-        let site = s as usize;
-        let tables = self.tables;
-        let verdict = refusals::verdict_at(tables, &self.cast, &self.carried, at, site);
-        let mut next = self.stores(at, site, verdict);
-        next.closed[at * 16 + site] = verdict;
-        Stepped {
-            answer: Answer::Closed(verdict),
-            next,
-        }
-    }
-
-    // ---- SETTLE: the first step accepted among CLOSE, DELIVER and CARRY, until none is
-
-    // The step that SETTLE takes next, with what is known by then to be refused.
-    fn next_step(self, known: Known) -> Next
-        requires { ⌜ usable self ≡ true ⌝ }
-        requires { ⌜ Knows (self .tables) (partsOf self) known ⌝ }
-        ensures { λ r. ⌜ r .todo ≡ todo self ⌝ }
-        ensures { λ r. ⌜ Knows (self .tables) (partsOf self) (r .known) ⌝ }
-    {
-        let tables = self.tables;
-        let versions = self.versions;
+        let readversions = self.readversions;
         let places = self.places;
-        search::next_step(
-            tables,
+        layout::numbers_of(
             versions,
+            &self.values,
+            readversions,
+            &self.readvalues,
             places,
-            &self.delivered,
-            &self.closed,
-            &self.cast,
-            &self.carried,
-            known,
         )
     }
 
-    // What is known after it.
-    fn known_after(self, known: Known, x: Todo) -> Known
-        requires { ⌜ (usable self ≡ true) × (x ≡ todo self) ⌝ }
-        requires { ⌜ Knows (self .tables) (partsOf self) known ⌝ }
-        ensures { λ r. ⌜ Knows (self .tables) (partsOf (after self x)) r ⌝ }
-    {
-        match x {
-            Todo::Close { t: _, s } => known.closed(s as usize),
-            Todo::Deliver(s) => {
-                let site = s as usize;
-                let tables = self.tables;
-                let places = self.places;
-                let t = refusals::next_at(tables, places, &self.delivered, site) as usize;
-                let n = tables::sites_in(&tables.sizes, tables.groups);
-                let others = search::is_shared(&self.carried, n, t, site);
-                known.delivered(t, site, others)
-            }
-            Todo::Carry { t, from, to } => { known.carried(t as usize, from as usize, to as usize) }
-            Todo::Nothing => known,
-        }
-    }
-
-    // The state after that step.
-    fn after_step(self, x: Todo) -> State
-        requires { ⌜ (usable self ≡ true) × (x ≡ todo self) ⌝ }
-        ensures { λ r. ⌜ r ≡ after self x ⌝ }
-    {
-        match x {
-            Todo::Close { t, s } => {
-                let done = self.take_close(t, s);
-                done.next
-            }
-            Todo::Deliver(s) => {
-                let done = self.take_deliver(s);
-                done.next
-            }
-            Todo::Carry { t, from, to } => {
-                let done = self.take_carry(t, from, to);
-                done.next
-            }
-            Todo::Nothing => self,
-        }
-    }
-
-    fn take_settle(self) -> Stepped
-        requires { ⌜ usable self ≡ true ⌝ }
-        ensures { λ r. ⌜ r ≡ settleDone self ⌝ }
-    {
-        let mut st = self;
-        let mut known = Known::first();
-        let mut n: u32 = 0;
-        while n < 34816 {
-            let next = st.next_step(known);
-            let x = next.todo;
-            if let Todo::Nothing = x {
-                return Stepped {
-                    answer: Answer::Settled(n),
-                    next: st,
-                };
-            }
-            known = st.known_after(next.known, x);
-            st = st.after_step(x);
-            n += 1;
-        }
-        Stepped {
-            answer: Answer::Settled(n),
-            next: st,
-        }
-    }
-
     // A step on a state that is known to be usable.
-    pub fn take(self, x: Step) -> Stepped
+    fn take(self, x: Step) -> Stepped
         requires { ⌜ usable self ≡ true ⌝ }
         ensures { λ r. ⌜ r ≡ decided self x ⌝ }
     {
-        let n = self.refusal(x);
-        if n != 0 {
-            return Stepped {
-                answer: Answer::Refused(n),
-                next: self,
-            };
-        }
-        match x {
-            Step::Read { t, i, s } => self.take_read(t, i, s),
-            Step::Submit(t) => self.take_submit(t),
-            Step::Deliver(s) => self.take_deliver(s),
-            Step::Carry { t, from, to } => self.take_carry(t, from, to),
-            Step::Close { t, s } => self.take_close(t, s),
-            Step::Settle => self.take_settle(),
-        }
+        let tables = self.tables;
+        let plan = plan::plan_of(tables);
+        let mut numbers = self.numbers();
+        let mut flags = layout::flags_of(&self.recorded, &self.delivered);
+        let mut marks = layout::marks_of(&self.closed, &self.cast);
+        let mut carried = self.carried;
+        let answer = take_in(&plan, &mut numbers, &mut flags, &mut marks, &mut carried, x);
+        let next = state_of(tables, &numbers, &flags, &marks, carried);
+        Stepped { answer, next }
     }
 
     // ---- what a caller has: any state, any step, an answer

@@ -10,7 +10,7 @@ use Rattle.tables.specs.Concern.{concerns}
 use Rattle.tables.specs.declared.Tables.{Tables}
 use Rattle.rules.specs.Cells.{placeIn, cell, nobody}
 use Rattle.rules.specs.Queue.{waits, nextIn}
-use Rattle.refusals.specs.Refusals.{nextOf}
+use Rattle.rules.specs.Asked.{nextOf}
 use Rattle.steps.specs.declared.Place.{Place}
 
 pub next-low : (T : Tables) (places : List Place) (delivered : List Bool) (s : ℕ) → T .txns ≤ 128

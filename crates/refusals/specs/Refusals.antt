@@ -1,25 +1,19 @@
 -- The number that refuses a step, 0 where it is accepted: the tests in the listed order, asked of the tables and of the lists that they look at.
-use Prim.Native.Nat.{ℕ, _≤_}
+use Prim.Native.Nat.{ℕ}
 use mathlib.Core.Bool.{Bool, false, _&&_, _||_, not, cond}
 use mathlib.Core.List.{List}
 use lib.Dec.{eqb, leb, ltb}
 use Rattle.bounded.specs.Bounded.{allBelow}
-use Rattle.tables.specs.Lists.{readCount, readKey, writeCount}
-use Rattle.tables.specs.Sites.{siteCount, siteKeys, holds}
-use Rattle.tables.specs.Concern.{concerns, local, votes}
+use Rattle.tables.specs.Lists.{readCount, readKey}
+use Rattle.tables.specs.Sites.{siteCount, holds}
+use Rattle.tables.specs.Concern.{concerns, local}
 use Rattle.tables.specs.declared.Tables.{Tables}
 use Rattle.rules.specs.Cells.{placeIn, cell, nobody}
-use Rattle.rules.specs.Queue.{headIn, blockedIn, nextIn, Short}
-use Rattle.rules.specs.Votes.{recordedIn, certifyIn, holdsVote, coveredIn, allYesIn, verdictBy, roomIn}
+use Rattle.rules.specs.Queue.{headIn}
+use Rattle.rules.specs.Votes.{recordedIn, holdsVote}
+use Rattle.rules.specs.Asked.{nextOf, blockedOf, verdictAt, roomOf}
 use Rattle.steps.specs.declared.Place.{Place}
 use Rattle.steps.specs.declared.Version.{Version}
-
--- counts within their limits
-pub record Fits (T : Tables) : Type 0 where
-  pub groups : T .groups ≤ 8
-  pub sites : siteCount T ≤ 16
-  pub txns : T .txns ≤ 128
-  pub short : Short (T .nreads) (T .nwrites) (T .txns)
 
 -- READ: no such transaction, read, site; the site lacks the key; recorded before
 unfoldable pub readRefusalIn : Tables → List Bool → ℕ → ℕ → ℕ → ℕ
@@ -39,13 +33,6 @@ submitRefusalIn T places recorded t =
     (cond (not (allBelow (readCount T t) (recordedIn recorded t))) 25
     0))
 
--- the next to deliver at s, and whether t conflicts with one in the queue there
-abbrev pub nextOf : Tables → List Place → List Bool → ℕ → ℕ
-nextOf T places delivered s = nextIn places delivered (T .reads) (T .nreads) (T .writes) (T .nwrites) (T .txns) (siteKeys T s) s
-
-abbrev pub blockedOf : Tables → List Bool → List ℕ → ℕ → ℕ → Bool
-blockedOf T delivered closed t s = blockedIn delivered closed (T .reads) (T .nreads) (T .writes) (T .nwrites) (T .txns) t s
-
 -- DELIVER: nothing to deliver; the next one conflicts with one in the queue
 unfoldable pub deliverRefusalIn : Tables → List Place → List Bool → List ℕ → ℕ → ℕ
 deliverRefusalIn T places delivered closed s =
@@ -53,11 +40,6 @@ deliverRefusalIn T places delivered closed s =
     (cond (eqb (nextOf T places delivered s) nobody) 26
     (cond (blockedOf T delivered closed (nextOf T places delivered s) s) 27
     0))
-
--- what s casts on t: 1 yes, 2 no, if it is in V(t); else 0, none
-abbrev pub voteIn : Tables → List Version → List Version → List Bool → ℕ → ℕ → ℕ
-voteIn T versions read recorded t s =
-    cond (votes T t s) (certifyIn versions read recorded (T .reads) (readCount T t) t s (siteKeys T s)) 0
 
 -- CARRY: t is local, from equals to, or from has cast no vote on t; carried before
 unfoldable pub voteRefusalIn : Tables → List ℕ → List ℕ → ℕ → ℕ → ℕ → ℕ
@@ -72,17 +54,6 @@ carryRefusalIn T cast carried t from to =
     (cond (leb (siteCount T) from || leb (siteCount T) to) 21
     (cond (not (concerns T t to)) 23
     (voteRefusalIn T cast carried t from to)))
-
--- the verdict on t at s: 0 not known, 1 commit, 2 abort
-abbrev pub verdictAt : Tables → List ℕ → List ℕ → ℕ → ℕ → ℕ
-verdictAt T cast carried t s =
-    verdictBy (readCount T t)
-    (coveredIn (cell 0 cast t s) (cell 0 carried t s) (T .sizes) (T .masks) (T .groups) (T .reads) (readCount T t) (siteCount T) t s)
-    (allYesIn cast (cell 0 carried t s) (siteCount T) t s)
-
--- a commit of t at s has a version left for each key that it writes there
-abbrev pub roomOf : Tables → List Version → ℕ → ℕ → Bool
-roomOf T versions t s = roomIn versions (T .writes) (writeCount T t) t s (siteKeys T s)
 
 -- CLOSE: verdict not known; a commit that is not at the head; a version at its end
 unfoldable pub verdictRefusalIn : Tables → List Version → List Place → List Bool → List ℕ → List ℕ → List ℕ → ℕ → ℕ → ℕ

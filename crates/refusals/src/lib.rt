@@ -1,34 +1,32 @@
-// The number that refuses a step, 0 where it is accepted, asked of tables and of lent parts of a state.
+// The number that refuses a step, 0 where it is accepted, asked of the plan of the tables and of lent parts of a state.
 ghost use mathlib.Core.Path.{_≡_};
 ghost use Prim.Native.Nat.{_<_};
-ghost use Rattle.tables.specs.Sites.{siteCount};
-ghost use Rattle.tables.specs.Concern.{concerns};
-ghost use Rattle.refusals.specs.Refusals.{Fits, nextOf, voteIn, verdictAt, readRefusalIn, submitRefusalIn, deliverRefusalIn, voteRefusalIn, carryRefusalIn, verdictRefusalIn, closeRefusalIn};
-use steps::Place;
-use steps::Version;
-use tables::Tables;
+ghost use Rattle.tables.specs.declared.Tables.{Tables};
+ghost use Rattle.plan.specs.Plan.{txnsOf, sitesOf, Laid, Plan};
+ghost use Rattle.layout.specs.Layout.{theVersions, thePlaces, theRecorded, theDelivered, theClosed, theCast};
+ghost use Rattle.refusals.specs.Refusals.{readRefusalIn, submitRefusalIn, deliverRefusalIn, voteRefusalIn, carryRefusalIn, verdictRefusalIn, closeRefusalIn};
+use tables::wide;
 
 // ---- READ and SUBMIT
 
-pub fn read_refusal(tables: Tables, recorded: &[bool; 1024], t: u8, i: u8, s: u8) -> u8
-    requires { ⌜ Fits tables ⌝ }
-    ensures { λ r. ⌜ r ≡ readRefusalIn tables (now (recorded .entry)) t i s ⌝ }
+pub fn read_refusal<'a>(plan: &'a [u64; 3666], flags: &'a [bool; 3072], t: u8, i: u8, s: u8) -> u8
+    requires { ⌜ Laid (now plan) ⌝ }
+    ensures { λ r. ⌜ ((T : Tables) → Plan T (now (plan .entry)) → r ≡ readRefusalIn T (theRecorded (now (flags .entry))) t i s) ⌝ }
 {
-    if tables.txns <= t {
+    if plan::txns(plan) <= t {
         return 20;
     }
-    let at = t as usize;
-    let read = i as usize;
-    if tables::count_at(&tables.nreads, at) <= read {
+    let at = wide(t);
+    let read = wide(i);
+    if plan::reads(plan, at) <= read {
         return 22;
     }
-    let site = s as usize;
-    if tables::sites_in(&tables.sizes, tables.groups) <= site {
+    let site = wide(s);
+    if plan::sites(plan) <= site {
         return 21;
     }
-    let m = tables::site_keys(&tables.sizes, &tables.masks, tables.groups, site);
-    if keys::has_key(m, tables::key_at(&tables.reads, at, read)) {
-        if recorded[at * 8 + read] {
+    if keys::has_key(plan::site_set(plan, site), plan::read_key(plan, at, read)) {
+        if flags[at * 8 + read] {
             return 24;
         }
         return 0;
@@ -36,20 +34,23 @@ pub fn read_refusal(tables: Tables, recorded: &[bool; 1024], t: u8, i: u8, s: u8
     23
 }
 
-pub fn submit_refusal(tables: Tables, places: [Place; 128], recorded: &[bool; 1024], t: u8) -> u8
-    requires { ⌜ Fits tables ⌝ }
-    ensures { λ r. ⌜ r ≡ submitRefusalIn tables places (now (recorded .entry)) t ⌝ }
+pub fn submit_refusal<'a>(
+    plan: &'a [u64; 3666],
+    numbers: &'a [u32; 4224],
+    flags: &'a [bool; 3072],
+    t: u8,
+) -> u8
+    requires { ⌜ Laid (now plan) ⌝ }
+    ensures { λ r. ⌜ ((T : Tables) → Plan T (now (plan .entry)) → r ≡ submitRefusalIn T (thePlaces (now (numbers .entry))) (theRecorded (now (flags .entry))) t) ⌝ }
 {
-    if tables.txns <= t {
+    if plan::txns(plan) <= t {
         return 20;
     }
-    let at = t as usize;
-    let Place(p) = places[at];
-    if 0 < p {
+    let at = wide(t);
+    if 0 < numbers[4096 + at] {
         return 24;
     }
-    let n = tables::count_at(&tables.nreads, at);
-    if rules::is_recorded(recorded, n, at) {
+    if rules::is_recorded(flags, plan::reads(plan, at), at) {
         return 0;
     }
     25
@@ -57,213 +58,112 @@ pub fn submit_refusal(tables: Tables, places: [Place; 128], recorded: &[bool; 10
 
 // ---- DELIVER
 
-// The next to deliver at s, 128 for none.
-pub fn next_at(tables: Tables, places: [Place; 128], delivered: &[bool; 2048], s: usize) -> u8
-    requires { ⌜ Fits tables ⌝ }
-    requires { ⌜ s < siteCount tables ⌝ }
-    ensures { λ r. ⌜ r ≡ nextOf tables places (now (delivered .entry)) s ⌝ }
-{
-    let m = tables::site_keys(&tables.sizes, &tables.masks, tables.groups, s);
-    rules::next_at(
-        places,
-        delivered,
-        &tables.reads,
-        &tables.nreads,
-        &tables.writes,
-        &tables.nwrites,
-        tables.txns,
-        m,
-        s,
-    )
-}
-
 pub fn deliver_refusal<'a>(
-    tables: Tables,
-    places: [Place; 128],
-    delivered: &'a [bool; 2048],
-    closed: &'a [u8; 2048],
+    plan: &'a [u64; 3666],
+    numbers: &'a [u32; 4224],
+    flags: &'a [bool; 3072],
+    marks: &'a [u8; 4096],
     s: u8,
 ) -> u8
-    requires { ⌜ Fits tables ⌝ }
-    ensures { λ r. ⌜ r ≡ deliverRefusalIn tables places (now (delivered .entry)) (now (closed .entry)) s ⌝ }
+    requires { ⌜ Laid (now plan) ⌝ }
+    ensures { λ r. ⌜ ((T : Tables) → Plan T (now (plan .entry)) → r ≡ deliverRefusalIn T (thePlaces (now (numbers .entry))) (theDelivered (now (flags .entry))) (theClosed (now (marks .entry))) s) ⌝ }
 {
-    let site = s as usize;
-    if tables::sites_in(&tables.sizes, tables.groups) <= site {
+    let site = wide(s);
+    if plan::sites(plan) <= site {
         return 21;
     }
-    let t = next_at(tables, places, delivered, site);
+    let t = rules::next_at(plan, numbers, flags, site);
     if t == 128 {
         return 26;
     }
-    if rules::is_blocked(
-        delivered,
-        closed,
-        &tables.reads,
-        &tables.nreads,
-        &tables.writes,
-        &tables.nwrites,
-        tables.txns,
-        t as usize,
-        site,
-    ) {
+    if rules::is_blocked(plan, flags, marks, wide(t), site) {
         return 27;
-    }
-    0
-}
-
-// What s casts on t: 0 where it is not in V(t).
-pub fn vote(
-    tables: Tables,
-    versions: [Version; 1024],
-    read: [Version; 1024],
-    recorded: &[bool; 1024],
-    t: usize,
-    s: usize,
-) -> u8
-    requires { ⌜ Fits tables ⌝ }
-    requires { ⌜ (t < tables .txns) × (s < siteCount tables) ⌝ }
-    ensures { λ r. ⌜ r ≡ voteIn tables versions read (now (recorded .entry)) t s ⌝ }
-{
-    let m = tables::site_keys(&tables.sizes, &tables.masks, tables.groups, s);
-    let n = tables::count_at(&tables.nreads, t);
-    if tables::some_in(&tables.reads, t, n, m) {
-        return rules::certify(versions, read, recorded, &tables.reads, n, t, s, m);
     }
     0
 }
 
 // ---- CARRY
 
-// Whether s is in R(t).
-pub fn is_concerned(tables: Tables, t: usize, s: usize) -> bool
-    requires { ⌜ Fits tables ⌝ }
-    requires { ⌜ t < tables .txns ⌝ }
-    ensures { λ r. ⌜ r ≡ concerns tables t s ⌝ }
-{
-    let m = tables::site_keys(&tables.sizes, &tables.masks, tables.groups, s);
-    tables::touch(
-        &tables.reads,
-        &tables.nreads,
-        &tables.writes,
-        &tables.nwrites,
-        t,
-        m,
-    )
-}
-
 // What refuses the carrying of a vote between two sites, the second of them of R(t).
 fn vote_refusal<'a>(
-    tables: Tables,
-    cast: &'a [u8; 2048],
+    plan: &'a [u64; 3666],
+    marks: &'a [u8; 4096],
     carried: &'a [u16; 2048],
     t: usize,
     f: usize,
     s: usize,
 ) -> u8
-    requires { ⌜ Fits tables ⌝ }
-    requires { ⌜ (t < tables .txns) × ((f < siteCount tables) × (s < siteCount tables)) ⌝ }
-    ensures { λ r. ⌜ r ≡ voteRefusalIn tables (now (cast .entry)) (now (carried .entry)) t f s ⌝ }
+    requires { ⌜ Laid (now plan) ⌝ }
+    requires { ⌜ (t < txnsOf (now plan)) × ((f < 16) × (s < 16)) ⌝ }
+    ensures { λ r. ⌜ ((T : Tables) → Plan T (now (plan .entry)) → r ≡ voteRefusalIn T (theCast (now (marks .entry))) (now (carried .entry)) t f s) ⌝ }
 {
-    if tables.is_local(t) {
-        return 28;
-    }
     if f == s {
         return 28;
     }
-    if cast[t * 16 + f] == 0 {
+    if marks[2048 + t * 16 + f] == 0 {
         return 28;
     }
-    if rules::has_vote(cast[t * 16 + s], carried[t * 16 + s], s, f) {
+    if plan::is_local(plan, t) {
+        return 28;
+    }
+    if rules::has_vote(marks[2048 + t * 16 + s], carried[t * 16 + s], s, f) {
         return 24;
     }
     0
 }
 
 pub fn carry_refusal<'a>(
-    tables: Tables,
-    cast: &'a [u8; 2048],
+    plan: &'a [u64; 3666],
+    marks: &'a [u8; 4096],
     carried: &'a [u16; 2048],
     t: u8,
     from: u8,
     to: u8,
 ) -> u8
-    requires { ⌜ Fits tables ⌝ }
-    ensures { λ r. ⌜ r ≡ carryRefusalIn tables (now (cast .entry)) (now (carried .entry)) t «from» to ⌝ }
+    requires { ⌜ Laid (now plan) ⌝ }
+    ensures { λ r. ⌜ ((T : Tables) → Plan T (now (plan .entry)) → r ≡ carryRefusalIn T (theCast (now (marks .entry))) (now (carried .entry)) t «from» to) ⌝ }
 {
-    if tables.txns <= t {
+    if plan::txns(plan) <= t {
         return 20;
     }
-    let n = tables::sites_in(&tables.sizes, tables.groups);
-    let f = from as usize;
+    let n = plan::sites(plan);
+    let f = wide(from);
     if n <= f {
         return 21;
     }
-    let s = to as usize;
+    let s = wide(to);
     if n <= s {
         return 21;
     }
-    let at = t as usize;
-    if is_concerned(tables, at, s) {
-        return vote_refusal(tables, cast, carried, at, f, s);
+    if plan::is_concerned(plan, wide(t), s) {
+        return vote_refusal(plan, marks, carried, wide(t), f, s);
     }
     23
 }
 
 // ---- CLOSE
 
-// The verdict on t at s: 0 not known, 1 commit, 2 abort.
-pub fn verdict_at<'a>(
-    tables: Tables,
-    cast: &'a [u8; 2048],
-    carried: &'a [u16; 2048],
-    t: usize,
-    s: usize,
-) -> u8
-    requires { ⌜ Fits tables ⌝ }
-    requires { ⌜ (t < tables .txns) × (s < siteCount tables) ⌝ }
-    ensures { λ r. ⌜ r ≡ verdictAt tables (now (cast .entry)) (now (carried .entry)) t s ⌝ }
-{
-    let r = tables::count_at(&tables.nreads, t);
-    let n = tables::sites_in(&tables.sizes, tables.groups);
-    rules::verdict(
-        cast,
-        carried,
-        &tables.sizes,
-        &tables.masks,
-        tables.groups,
-        &tables.reads,
-        r,
-        n,
-        t,
-        s,
-    )
-}
-
 // What refuses the closing of one in the queue.
 fn verdict_refusal<'a>(
-    tables: Tables,
-    versions: [Version; 1024],
-    places: [Place; 128],
-    delivered: &'a [bool; 2048],
-    closed: &'a [u8; 2048],
-    cast: &'a [u8; 2048],
+    plan: &'a [u64; 3666],
+    numbers: &'a [u32; 4224],
+    flags: &'a [bool; 3072],
+    marks: &'a [u8; 4096],
     carried: &'a [u16; 2048],
     t: usize,
     s: usize,
 ) -> u8
-    requires { ⌜ Fits tables ⌝ }
-    requires { ⌜ (t < tables .txns) × (s < siteCount tables) ⌝ }
-    ensures { λ r. ⌜ r ≡ verdictRefusalIn tables versions places (now (delivered .entry)) (now (closed .entry)) (now (cast .entry)) (now (carried .entry)) t s ⌝ }
+    requires { ⌜ Laid (now plan) ⌝ }
+    requires { ⌜ (t < txnsOf (now plan)) × (s < 16) ⌝ }
+    ensures { λ r. ⌜ ((T : Tables) → Plan T (now (plan .entry)) → r ≡ verdictRefusalIn T (theVersions (now (numbers .entry))) (thePlaces (now (numbers .entry))) (theDelivered (now (flags .entry))) (theClosed (now (marks .entry))) (theCast (now (marks .entry))) (now (carried .entry)) t s) ⌝ }
 {
-    let v = verdict_at(tables, cast, carried, t, s);
+    let v = rules::verdict(plan, marks, carried, t, s);
     if v == 0 {
         return 30;
     }
     if v == 1 {
-        if rules::is_at_head(places, delivered, closed, tables.txns, t, s) {
-            let m = tables::site_keys(&tables.sizes, &tables.masks, tables.groups, s);
-            let w = tables::count_at(&tables.nwrites, t);
-            if rules::has_room(versions, &tables.writes, w, t, s, m) {
+        if rules::is_at_head(plan, numbers, flags, marks, t, s) {
+            if rules::has_room(plan, numbers, t, s) {
                 return 0;
             }
             return 32;
@@ -274,43 +174,31 @@ fn verdict_refusal<'a>(
 }
 
 pub fn close_refusal<'a>(
-    tables: Tables,
-    versions: [Version; 1024],
-    places: [Place; 128],
-    delivered: &'a [bool; 2048],
-    closed: &'a [u8; 2048],
-    cast: &'a [u8; 2048],
+    plan: &'a [u64; 3666],
+    numbers: &'a [u32; 4224],
+    flags: &'a [bool; 3072],
+    marks: &'a [u8; 4096],
     carried: &'a [u16; 2048],
     t: u8,
     s: u8,
 ) -> u8
-    requires { ⌜ Fits tables ⌝ }
-    ensures { λ r. ⌜ r ≡ closeRefusalIn tables versions places (now (delivered .entry)) (now (closed .entry)) (now (cast .entry)) (now (carried .entry)) t s ⌝ }
+    requires { ⌜ Laid (now plan) ⌝ }
+    ensures { λ r. ⌜ ((T : Tables) → Plan T (now (plan .entry)) → r ≡ closeRefusalIn T (theVersions (now (numbers .entry))) (thePlaces (now (numbers .entry))) (theDelivered (now (flags .entry))) (theClosed (now (marks .entry))) (theCast (now (marks .entry))) (now (carried .entry)) t s) ⌝ }
 {
-    if tables.txns <= t {
+    if plan::txns(plan) <= t {
         return 20;
     }
-    let at = t as usize;
-    let site = s as usize;
-    if tables::sites_in(&tables.sizes, tables.groups) <= site {
+    let at = wide(t);
+    let site = wide(s);
+    if plan::sites(plan) <= site {
         return 21;
     }
-    if is_concerned(tables, at, site) {
-        if 0 < closed[at * 16 + site] {
+    if plan::is_concerned(plan, at, site) {
+        if 0 < marks[at * 16 + site] {
             return 24;
         }
-        if delivered[at * 16 + site] {
-            return verdict_refusal(
-                tables,
-                versions,
-                places,
-                delivered,
-                closed,
-                cast,
-                carried,
-                at,
-                site,
-            );
+        if flags[1024 + at * 16 + site] {
+            return verdict_refusal(plan, numbers, flags, marks, carried, at, site);
         }
         return 29;
     }

@@ -14,14 +14,18 @@ use Rattle.rules.specs.Queue.{submittedIn}
 use Rattle.steps.specs.declared.Place.{Place}
 use Rattle.rules.specs.declared.Found.{Found}
 
--- r is t, where it passes and comes sooner than f, else f: so r stands with its place if f does
+-- one found stands with its place, or is nobody
+abbrev pub Stands : List Place → Found → Type 0
+Stands places f = (f .place ≡ placeIn places (f .t)) × (f .t ≤ nobody)
+
+-- r is t, where it passes and comes sooner than f, else f: so r stands if f does
 pub place-found : (places : List Place) (passes : Bool) (t : ℕ) (f r : Found) → let b = passes && (eqb (f .t) nobody || ltb (placeIn places t) (f .place)) in
-    r .t ≡ cond b t (f .t) → r .place ≡ cond b (placeIn places t) (f .place) → f .place ≡ placeIn places (f .t) → r .place ≡ placeIn places (r .t)
+    r .t ≡ cond b t (f .t) → r .place ≡ cond b (placeIn places t) (f .place) → t ≤ nobody → Stands places f → Stands places r
 place-found places passes t f r = go (passes && (eqb (f .t) nobody || ltb (placeIn places t) (f .place)))
   where
-    go : (b : Bool) → r .t ≡ cond b t (f .t) → r .place ≡ cond b (placeIn places t) (f .place) → f .place ≡ placeIn places (f .t) → r .place ≡ placeIn places (r .t)
-    go true d e h = rw (e, d)
-    go false d e h = rw (e, d, h)
+    go : (b : Bool) → r .t ≡ cond b t (f .t) → r .place ≡ cond b (placeIn places t) (f .place) → t ≤ nobody → Stands places f → Stands places r
+    go true d e l h = (rw (e, d), rw d l)
+    go false d e l h = (rw (e, d) (h .0), rw d (h .1))
 
 -- nobody has no place
 pub place-nobody : (places : List Place) → length places ≡ 128 → placeIn places nobody ≡ 0

@@ -1,9 +1,8 @@
 -- The queue of a site, what waits to enter it, and its head.
-use Prim.Native.Nat.{ℕ, _≤_, _<_}
+use Prim.Native.Nat.{ℕ}
 use mathlib.Core.Bool.{Bool, false, _&&_, _||_, not, cond}
 use mathlib.Core.List.{List}
 use lib.Dec.{eqb, ltb}
-use lib.ListN.{getD}
 use Rattle.bounded.specs.Bounded.{anyBelow, countBelow, firstBelow}
 use Rattle.tables.specs.Lists.{conflictIn}
 use Rattle.tables.specs.Concern.{touches}
@@ -40,7 +39,3 @@ nextIn places delivered reads nreads writes nwrites n m s =
 -- of n transactions, how many have a place
 unfoldable pub submittedIn : List Place → ℕ → ℕ
 submittedIn places n = countBelow n (λ t. ltb 0 (placeIn places t))
-
--- of n transactions, each has eight reads and eight writes at most
-abbrev pub Short : List ℕ → List ℕ → ℕ → Type 0
-Short nreads nwrites n = (t : ℕ) → t < n → (getD nreads t 0 ≤ 8) × (getD nwrites t 0 ≤ 8)

@@ -1,42 +1,45 @@
-// The protocol's questions, asked of lent tables: the queue, the next to deliver, votes, verdicts.
+// The protocol's questions, asked of the plan of the tables and of lent parts of a state: the queue, the next to deliver, votes, verdicts.
 ghost use mathlib.Core.Path.{_≡_};
-ghost use mathlib.Core.Bool.{_&&_, _||_, cond};
-ghost use Prim.Native.Nat.{_+_, _≤_, _<_};
+ghost use mathlib.Core.Bool.{false, _&&_, _||_, not, cond};
+ghost use Prim.Native.Nat.{ℕ, _+_, _≤_, _<_};
 ghost use lib.Dec.{eqb, ltb};
-ghost use lib.ListN.{getD};
-ghost use Rattle.bounded.specs.Bounded.{allBelow};
-ghost use Rattle.tables.specs.Concern.{touches};
-ghost use Rattle.rules.specs.Cells.{cell};
-ghost use Rattle.rules.specs.Queue.{precedes, headIn, blockedIn, waits, nextIn, submittedIn, Short};
-ghost use Rattle.rules.specs.Votes.{recordedIn, certifyIn, holdsVote, coversKey, coveredIn, allYesIn, verdictBy, roomIn};
+ghost use lib.ListN.{getD, set, length};
+ghost use Rattle.bounded.specs.Bounded.{anyBelow, allBelow};
+ghost use Rattle.keys.specs.Keys.{member, adding};
+ghost use Rattle.tables.specs.Lists.{readCount};
+ghost use Rattle.tables.specs.Sites.{siteCount, siteKeys};
+ghost use Rattle.tables.specs.Concern.{concerns};
+ghost use Rattle.tables.specs.declared.Tables.{Tables};
+ghost use Rattle.plan.specs.Plan.{txnsOf, Laid, Plan};
+ghost use Rattle.layout.specs.Layout.{theVersions, theReadVersions, thePlaces, theRecorded, theDelivered, theClosed, theCast};
+ghost use Rattle.rules.specs.Cells.{placeIn, cell};
+ghost use Rattle.rules.specs.Queue.{queuedIn, precedes, headIn, waits, submittedIn};
+ghost use Rattle.rules.specs.Votes.{recordedIn, certifyIn, holdsVote, coveredIn};
+ghost use Rattle.rules.specs.Asked.{nextOf, blockedOf, voteIn, verdictAt, roomOf};
 ghost use Rattle.rules.specs.Fit.{countsFit, rowFits, txnFits, txnsFit, placesFit};
 use steps::Place;
-use steps::Version;
 use tables::wide;
 
 // ---- the queue
 
-// Whether t, at place p, waits at a site whose keys are the set m.
-fn is_waiting<'a>(
-    p: u32,
-    delivered: bool,
-    reads: &'a [u8; 1024],
-    nreads: &'a [u8; 128],
-    writes: &'a [u8; 1024],
-    nwrites: &'a [u8; 128],
+// Whether t waits at s.
+pub fn is_waiting<'a>(
+    plan: &'a [u64; 3666],
+    numbers: &'a [u32; 4224],
+    flags: &'a [bool; 3072],
     t: usize,
-    m: u64,
+    s: usize,
 ) -> bool
-    requires { ⌜ (t < 128) × ((getD (now nreads) t 0 ≤ 8) × (getD (now nwrites) t 0 ≤ 8)) ⌝ }
-    ensures { λ r. ⌜ r ≡ waits p delivered (touches (now (reads .entry)) (now (nreads .entry)) (now (writes .entry)) (now (nwrites .entry)) t m) ⌝ }
+    requires { ⌜ (t < 128) × (s < 16) ⌝ }
+    ensures { λ r. ⌜ ((T : Tables) → Plan T (now (plan .entry)) → t < T .txns → r ≡ waits (placeIn (thePlaces (now (numbers .entry))) t) (cell false (theDelivered (now (flags .entry))) t s) (concerns T t s)) ⌝ }
 {
-    if p == 0 {
+    if numbers[4096 + t] == 0 {
         return false;
     }
-    if delivered {
+    if flags[1024 + t * 16 + s] {
         return false;
     }
-    tables::touch(reads, nreads, writes, nwrites, t, m)
+    plan::is_concerned(plan, t, s)
 }
 
 // A transaction found, 128 for none, with its place.
@@ -46,7 +49,7 @@ pub struct Found {
 }
 
 // t, at place p, where it passes and comes before what was found; else that.
-pub fn sooner(found: Found, passes: bool, t: u8, p: u32) -> Found
+fn sooner(found: Found, passes: bool, t: u8, p: u32) -> Found
     ensures { λ r. ⌜ r .t ≡ cond (passes && (eqb (found .t) 128 || ltb p (found .place))) t (found .t) ⌝ }
     ensures { λ r. ⌜ r .place ≡ cond (passes && (eqb (found .t) 128 || ltb p (found .place))) p (found .place) ⌝ }
 {
@@ -61,59 +64,59 @@ pub fn sooner(found: Found, passes: bool, t: u8, p: u32) -> Found
     found
 }
 
-// The next to deliver at s, whose keys are the set m; 128 for none.
+// The next to deliver at s; 128 for none.
 pub fn next_at<'a>(
-    places: [Place; 128],
-    delivered: &'a [bool; 2048],
-    reads: &'a [u8; 1024],
-    nreads: &'a [u8; 128],
-    writes: &'a [u8; 1024],
-    nwrites: &'a [u8; 128],
-    n: u8,
-    m: u64,
+    plan: &'a [u64; 3666],
+    numbers: &'a [u32; 4224],
+    flags: &'a [bool; 3072],
     s: usize,
 ) -> u8
-    requires { ⌜ (n ≤ 128) × (s < 16) ⌝ }
-    requires { ⌜ Short (now nreads) (now nwrites) n ⌝ }
-    ensures { λ r. ⌜ r ≡ nextIn places (now (delivered .entry)) (now (reads .entry)) (now (nreads .entry)) (now (writes .entry)) (now (nwrites .entry)) n m s ⌝ }
+    requires { ⌜ Laid (now plan) ⌝ }
+    requires { ⌜ s < 16 ⌝ }
+    ensures { λ r. ⌜ ((T : Tables) → Plan T (now (plan .entry)) → r ≡ nextOf T (thePlaces (now (numbers .entry))) (theDelivered (now (flags .entry))) s) ⌝ }
+    ensures { λ r. ⌜ r ≤ 128 ⌝ }
 {
+    let n = plan::txns(plan);
     let mut found = Found { t: 128, place: 0 };
     let mut t: u8 = 0;
     while t < n {
-        let at = t as usize;
-        let Place(p) = places[at];
-        let d = delivered[at * 16 + s];
-        let passes = is_waiting(p, d, reads, nreads, writes, nwrites, at, m);
-        found = sooner(found, passes, t, p);
+        let at = wide(t);
+        let passes = is_waiting(plan, numbers, flags, at, s);
+        found = sooner(found, passes, t, numbers[4096 + at]);
         t += 1;
     }
     found.t
 }
 
+// Whether t is in the queue of s.
+pub fn is_queued<'a>(flags: &'a [bool; 3072], marks: &'a [u8; 4096], t: usize, s: usize) -> bool
+    requires { ⌜ (t < 128) × (s < 16) ⌝ }
+    ensures { λ r. ⌜ r ≡ queuedIn (theDelivered (now (flags .entry))) (theClosed (now (marks .entry))) s t ⌝ }
+{
+    if flags[1024 + t * 16 + s] {
+        return marks[t * 16 + s] == 0;
+    }
+    false
+}
+
 // Whether t conflicts with one in the queue of s.
 pub fn is_blocked<'a>(
-    delivered: &'a [bool; 2048],
-    closed: &'a [u8; 2048],
-    reads: &'a [u8; 1024],
-    nreads: &'a [u8; 128],
-    writes: &'a [u8; 1024],
-    nwrites: &'a [u8; 128],
-    n: u8,
+    plan: &'a [u64; 3666],
+    flags: &'a [bool; 3072],
+    marks: &'a [u8; 4096],
     t: usize,
     s: usize,
 ) -> bool
-    requires { ⌜ (n ≤ 128) × ((t < n) × (s < 16)) ⌝ }
-    requires { ⌜ Short (now nreads) (now nwrites) n ⌝ }
-    ensures { λ r. ⌜ r ≡ blockedIn (now (delivered .entry)) (now (closed .entry)) (now (reads .entry)) (now (nreads .entry)) (now (writes .entry)) (now (nwrites .entry)) n t s ⌝ }
+    requires { ⌜ Laid (now plan) ⌝ }
+    requires { ⌜ (t < 128) × (s < 16) ⌝ }
+    ensures { λ r. ⌜ ((T : Tables) → Plan T (now (plan .entry)) → t < T .txns → r ≡ blockedOf T (theDelivered (now (flags .entry))) (theClosed (now (marks .entry))) t s) ⌝ }
 {
-    let mut u = wide(n);
+    let mut u = wide(plan::txns(plan));
     while 0 < u {
         u -= 1;
-        if delivered[u * 16 + s] {
-            if closed[u * 16 + s] == 0 {
-                if tables::conflict(reads, nreads, writes, nwrites, t, u) {
-                    return true;
-                }
+        if is_queued(flags, marks, u, s) {
+            if plan::is_conflict(plan, t, u) {
+                return true;
             }
         }
     }
@@ -121,7 +124,7 @@ pub fn is_blocked<'a>(
 }
 
 // Whether u, at place q, comes before t, at place p.
-fn is_before(u: usize, q: u32, t: usize, p: u32) -> bool
+pub fn is_before(u: usize, q: u32, t: usize, p: u32) -> bool
     ensures { λ r. ⌜ r ≡ precedes u q t p ⌝ }
 {
     if q < p {
@@ -135,26 +138,24 @@ fn is_before(u: usize, q: u32, t: usize, p: u32) -> bool
 
 // Whether none in the queue of s comes before t.
 pub fn is_at_head<'a>(
-    places: [Place; 128],
-    delivered: &'a [bool; 2048],
-    closed: &'a [u8; 2048],
-    n: u8,
+    plan: &'a [u64; 3666],
+    numbers: &'a [u32; 4224],
+    flags: &'a [bool; 3072],
+    marks: &'a [u8; 4096],
     t: usize,
     s: usize,
 ) -> bool
-    requires { ⌜ (n ≤ 128) × ((t < 128) × (s < 16)) ⌝ }
-    ensures { λ r. ⌜ r ≡ headIn places (now (delivered .entry)) (now (closed .entry)) n t s ⌝ }
+    requires { ⌜ Laid (now plan) ⌝ }
+    requires { ⌜ (t < 128) × (s < 16) ⌝ }
+    ensures { λ r. ⌜ r ≡ headIn (thePlaces (now (numbers .entry))) (theDelivered (now (flags .entry))) (theClosed (now (marks .entry))) (txnsOf (now (plan .entry))) t s ⌝ }
 {
-    let Place(p) = places[t];
-    let mut u = wide(n);
+    let p = numbers[4096 + t];
+    let mut u = wide(plan::txns(plan));
     while 0 < u {
         u -= 1;
-        if delivered[u * 16 + s] {
-            if closed[u * 16 + s] == 0 {
-                let Place(q) = places[u];
-                if is_before(u, q, t, p) {
-                    return false;
-                }
+        if is_queued(flags, marks, u, s) {
+            if is_before(u, numbers[4096 + u], t, p) {
+                return false;
             }
         }
     }
@@ -162,15 +163,15 @@ pub fn is_at_head<'a>(
 }
 
 // How many transactions have a place.
-pub fn submitted(places: [Place; 128], n: u8) -> u32
-    requires { ⌜ n ≤ 128 ⌝ }
-    ensures { λ r. ⌜ (r ≡ submittedIn places n) × (r ≤ n) ⌝ }
+pub fn submitted<'a>(plan: &'a [u64; 3666], numbers: &'a [u32; 4224]) -> u32
+    requires { ⌜ Laid (now plan) ⌝ }
+    ensures { λ r. ⌜ (r ≡ submittedIn (thePlaces (now (numbers .entry))) (txnsOf (now (plan .entry)))) × (r ≤ 128) ⌝ }
 {
+    let n = plan::txns(plan);
     let mut count: u32 = 0;
     let mut t: u8 = 0;
     while t < n {
-        let Place(p) = places[wide(t)];
-        count = count_one(count, p);
+        count = count_one(count, numbers[4096 + wide(t)]);
         t += 1;
     }
     count
@@ -190,14 +191,14 @@ fn count_one(count: u32, p: u32) -> u32
 // ---- votes
 
 // Whether each of the n reads of t was recorded.
-pub fn is_recorded(recorded: &[bool; 1024], n: usize, t: usize) -> bool
+pub fn is_recorded(flags: &[bool; 3072], n: usize, t: usize) -> bool
     requires { ⌜ (t < 128) × (n ≤ 8) ⌝ }
-    ensures { λ r. ⌜ r ≡ allBelow n (recordedIn (now (recorded .entry)) t) ⌝ }
+    ensures { λ r. ⌜ r ≡ allBelow n (recordedIn (theRecorded (now (flags .entry))) t) ⌝ }
 {
     let mut i = n;
     while 0 < i {
         i -= 1;
-        if recorded[t * 8 + i] {
+        if flags[t * 8 + i] {
             continue;
         }
         return false;
@@ -205,29 +206,26 @@ pub fn is_recorded(recorded: &[bool; 1024], n: usize, t: usize) -> bool
     true
 }
 
-// The certification of the n reads of t that s holds, its keys being the set m: 1 for yes, 2 for no.
-pub fn certify<'a>(
-    versions: [Version; 1024],
-    read: [Version; 1024],
-    recorded: &'a [bool; 1024],
-    reads: &'a [u8; 1024],
-    n: usize,
+// The certification of t at s: 1 for yes, 2 for no.
+fn certify<'a>(
+    plan: &'a [u64; 3666],
+    numbers: &'a [u32; 4224],
+    flags: &'a [bool; 3072],
     t: usize,
     s: usize,
-    m: u64,
 ) -> u8
-    requires { ⌜ (n ≤ 8) × ((t < 128) × (s < 16)) ⌝ }
-    ensures { λ r. ⌜ r ≡ certifyIn versions read (now (recorded .entry)) (now (reads .entry)) n t s m ⌝ }
+    requires { ⌜ Laid (now plan) ⌝ }
+    requires { ⌜ (t < txnsOf (now plan)) × (s < 16) ⌝ }
+    ensures { λ r. ⌜ ((T : Tables) → Plan T (now (plan .entry)) → r ≡ certifyIn (theVersions (now (numbers .entry))) (theReadVersions (now (numbers .entry))) (theRecorded (now (flags .entry))) (T .reads) (readCount T t) t s (siteKeys T s)) ⌝ }
 {
-    let mut i = n;
+    let m = plan::site_set(plan, s);
+    let mut i = plan::reads(plan, t);
     while 0 < i {
         i -= 1;
-        let k = reads[t * 8 + i];
+        let k = plan::read_key(plan, t, i);
         if keys::has_key(m, k) {
-            if recorded[t * 8 + i] {
-                let Version(v) = versions[s * 64 + wide(k)];
-                let Version(w) = read[t * 8 + i];
-                if v != w {
+            if flags[t * 8 + i] {
+                if numbers[s * 64 + wide(k)] != numbers[2048 + t * 8 + i] {
                     return 2;
                 }
             } else {
@@ -236,6 +234,24 @@ pub fn certify<'a>(
         }
     }
     1
+}
+
+// What s casts on t: 0 where it is not in V(t).
+pub fn vote<'a>(
+    plan: &'a [u64; 3666],
+    numbers: &'a [u32; 4224],
+    flags: &'a [bool; 3072],
+    t: usize,
+    s: usize,
+) -> u8
+    requires { ⌜ Laid (now plan) ⌝ }
+    requires { ⌜ (t < txnsOf (now plan)) × (s < 16) ⌝ }
+    ensures { λ r. ⌜ ((T : Tables) → Plan T (now (plan .entry)) → r ≡ voteIn T (theVersions (now (numbers .entry))) (theReadVersions (now (numbers .entry))) (theRecorded (now (flags .entry))) t s) ⌝ }
+{
+    if plan::is_voter(plan, t, s) {
+        return certify(plan, numbers, flags, t, s);
+    }
+    0
 }
 
 // Whether site s holds the vote of f: own is what it cast, carried those that it was handed.
@@ -248,52 +264,37 @@ pub fn has_vote(own: u8, carried: u16, s: usize, f: usize) -> bool
     keys::has_site(carried, f)
 }
 
-// Whether one of n sites whose vote s holds has key k.
-fn covers_key<'a>(
-    own: u8,
-    carried: u16,
-    sizes: &'a [u8; 8],
-    masks: &'a [u64; 8],
-    groups: u8,
-    n: usize,
-    s: usize,
-    k: u8,
-) -> bool
-    requires { ⌜ groups ≤ 8 ⌝ }
-    ensures { λ r. ⌜ r ≡ coversKey own carried (now (sizes .entry)) (now (masks .entry)) groups n s k ⌝ }
+// Adds the vote of f to those carried at place i.
+pub fn hand(carried: &mut [u16; 2048], i: usize, f: usize)
+    requires { ⌜ (i < 2048) × (f < 16) ⌝ }
+    ensures { λ _. ⌜ (now (carried .exit) ≡ set (now (carried .entry)) i (cond (member (getD (now (carried .entry)) i 0) f) (getD (now (carried .entry)) i 0) (adding (getD (now (carried .entry)) i 0) f))) × (i < length (now (carried .entry))) ⌝ }
 {
-    let mut f = n;
-    while 0 < f {
-        f -= 1;
-        if has_vote(own, carried, s, f) {
-            if keys::has_key(tables::site_keys(sizes, masks, groups, f), k) {
-                return true;
-            }
-        }
-    }
-    false
+    let into: &mut [u16] = carried;
+    into[i] = keys::with_site(into[i], f);
 }
 
-// Whether the votes on t that s holds cover all of its r reads.
-pub fn is_covered<'a>(
-    own: u8,
-    carried: u16,
-    sizes: &'a [u8; 8],
-    masks: &'a [u64; 8],
-    groups: u8,
-    reads: &'a [u8; 1024],
-    r: usize,
-    n: usize,
-    t: usize,
-    s: usize,
-) -> bool
-    requires { ⌜ (groups ≤ 8) × ((r ≤ 8) × (t < 128)) ⌝ }
-    ensures { λ z. ⌜ z ≡ coveredIn own carried (now (sizes .entry)) (now (masks .entry)) groups (now (reads .entry)) r n t s ⌝ }
+// The set of the sites whose votes s holds.
+fn voters(own: u8, carried: u16, s: usize) -> u16
+    requires { ⌜ s < 16 ⌝ }
+    ensures { λ r. ⌜ ((f : ℕ) → member r f ≡ holdsVote own carried s f) ⌝ }
 {
-    let mut i = r;
+    if 0 < own {
+        return keys::with_site(carried, s);
+    }
+    keys::without_site(carried, s)
+}
+
+// Whether the votes on t that s holds, those of the sites of held, cover all that t reads.
+fn is_covered(plan: &[u64; 3666], held: u16, t: usize) -> bool
+    requires { ⌜ Laid (now plan) ⌝ }
+    requires { ⌜ t < txnsOf (now plan) ⌝ }
+    ensures { λ r. ⌜ ((T : Tables) (own carried s : ℕ) → Plan T (now (plan .entry)) → ((f : ℕ) → member held f ≡ holdsVote own carried s f) → r ≡ coveredIn own carried (T .sizes) (T .masks) (T .groups) (T .reads) (readCount T t) (siteCount T) t s) ⌝ }
+{
+    let mut i = plan::reads(plan, t);
     while 0 < i {
         i -= 1;
-        if covers_key(own, carried, sizes, masks, groups, n, s, reads[t * 8 + i]) {
+        let k = plan::read_key(plan, t, i);
+        if keys::meet(plan::holders(plan, wide(k)), held as u64) {
             continue;
         }
         return false;
@@ -301,17 +302,16 @@ pub fn is_covered<'a>(
     true
 }
 
-// Whether every vote on t that s holds is yes, of n sites.
-pub fn is_all_yes(cast: &[u8; 2048], carried: u16, n: usize, t: usize, s: usize) -> bool
-    requires { ⌜ (n ≤ 16) × ((t < 128) × (s < 16)) ⌝ }
-    ensures { λ r. ⌜ r ≡ allYesIn (now (cast .entry)) carried n t s ⌝ }
+// Whether the vote on t of each of n sites of held is yes.
+fn is_all_yes(marks: &[u8; 4096], held: u16, n: usize, t: usize) -> bool
+    requires { ⌜ (n ≤ 16) × (t < 128) ⌝ }
+    ensures { λ r. ⌜ r ≡ allBelow n (λ f. not (member held f) || eqb (cell 0 (theCast (now (marks .entry))) t f) 1) ⌝ }
 {
-    let own = cast[t * 16 + s];
     let mut f = n;
     while 0 < f {
         f -= 1;
-        if has_vote(own, carried, s, f) {
-            if cast[t * 16 + f] != 1 {
+        if keys::has_site(held, f) {
+            if marks[2048 + t * 16 + f] != 1 {
                 return false;
             }
         }
@@ -321,30 +321,22 @@ pub fn is_all_yes(cast: &[u8; 2048], carried: u16, n: usize, t: usize, s: usize)
 
 // The verdict on t at s: 0 not known, 1 commit, 2 abort.
 pub fn verdict<'a>(
-    cast: &'a [u8; 2048],
+    plan: &'a [u64; 3666],
+    marks: &'a [u8; 4096],
     carried: &'a [u16; 2048],
-    sizes: &'a [u8; 8],
-    masks: &'a [u64; 8],
-    groups: u8,
-    reads: &'a [u8; 1024],
-    r: usize,
-    n: usize,
     t: usize,
     s: usize,
 ) -> u8
-    requires { ⌜ (groups ≤ 8) × (r ≤ 8) ⌝ }
-    requires { ⌜ (n ≤ 16) × ((t < 128) × (s < 16)) ⌝ }
-    ensures { λ z. ⌜ z ≡ verdictBy r
-        (coveredIn (cell 0 (now (cast .entry)) t s) (cell 0 (now (carried .entry)) t s) (now (sizes .entry)) (now (masks .entry)) groups (now (reads .entry)) r n t s)
-        (allYesIn (now (cast .entry)) (cell 0 (now (carried .entry)) t s) n t s) ⌝ }
+    requires { ⌜ Laid (now plan) ⌝ }
+    requires { ⌜ (t < txnsOf (now plan)) × (s < 16) ⌝ }
+    ensures { λ r. ⌜ ((T : Tables) → Plan T (now (plan .entry)) → r ≡ verdictAt T (theCast (now (marks .entry))) (now (carried .entry)) t s) ⌝ }
 {
-    if r == 0 {
+    if plan::reads(plan, t) == 0 {
         return 1;
     }
-    let own = cast[t * 16 + s];
-    let held = carried[t * 16 + s];
-    if is_covered(own, held, sizes, masks, groups, reads, r, n, t, s) {
-        if is_all_yes(cast, held, n, t, s) {
+    let held = voters(marks[2048 + t * 16 + s], carried[t * 16 + s], s);
+    if is_covered(plan, held, t) {
+        if is_all_yes(marks, held, plan::sites(plan), t) {
             return 1;
         }
         return 2;
@@ -352,25 +344,19 @@ pub fn verdict<'a>(
     0
 }
 
-// Whether a commit of t at s, whose keys are the set m, has a version left for each of its w written keys there.
-pub fn has_room(
-    versions: [Version; 1024],
-    writes: &[u8; 1024],
-    w: usize,
-    t: usize,
-    s: usize,
-    m: u64,
-) -> bool
-    requires { ⌜ (w ≤ 8) × ((t < 128) × (s < 16)) ⌝ }
-    ensures { λ r. ⌜ r ≡ roomIn versions (now (writes .entry)) w t s m ⌝ }
+// Whether a commit of t at s has a version left for each key that it writes there.
+pub fn has_room<'a>(plan: &'a [u64; 3666], numbers: &'a [u32; 4224], t: usize, s: usize) -> bool
+    requires { ⌜ Laid (now plan) ⌝ }
+    requires { ⌜ (t < txnsOf (now plan)) × (s < 16) ⌝ }
+    ensures { λ r. ⌜ ((T : Tables) → Plan T (now (plan .entry)) → r ≡ roomOf T (theVersions (now (numbers .entry))) t s) ⌝ }
 {
-    let mut i = w;
+    let m = plan::site_set(plan, s);
+    let mut i = plan::writes(plan, t);
     while 0 < i {
         i -= 1;
-        let k = writes[t * 8 + i];
+        let k = plan::write_key(plan, t, i);
         if keys::has_key(m, k) {
-            let Version(v) = versions[s * 64 + wide(k)];
-            if 4294967295 <= v {
+            if 4294967295 <= numbers[s * 64 + wide(k)] {
                 return false;
             }
         }

@@ -23,7 +23,8 @@ use Rattle.rules.specs.Queue.{queuedIn, precedes, headIn, blockedIn, nextIn}
 use Rattle.rules.specs.Votes.{holdsVote, allYesIn, roomIn}
 use Rattle.steps.specs.declared.Place.{Place}
 use Rattle.steps.specs.declared.Version.{Version}
-use Rattle.refusals.specs.Refusals.{nextOf, blockedOf, deliverRefusalIn, voteRefusalIn, carryRefusalIn, verdictAt, roomOf, verdictRefusalIn, closeRefusalIn}
+use Rattle.rules.specs.Asked.{nextOf, blockedOf, verdictAt, roomOf}
+use Rattle.refusals.specs.Refusals.{deliverRefusalIn, voteRefusalIn, carryRefusalIn, verdictRefusalIn, closeRefusalIn}
 use Rattle.search.specs.Search.{Parts, parts, closing}
 use Rattle.search.proofs.Laws.{all-same, any-same, first-same}
 

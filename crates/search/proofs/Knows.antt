@@ -1,36 +1,292 @@
--- What is known stays known: at first nothing, and after each step that SETTLE takes what `knownClosed`, `knownDelivered` and `knownCarried` say.
+-- What is known stays known: at first nothing, after CLOSE and after DELIVER what is left by the entries that each of them changes.
 -- Assumes nothing.
-use Prim.Native.Nat.{ℕ, _+_, _*_, _/_, _%_, _<_}
+use Prim.Native.Nat.{ℕ, _+_, _*_, _/_, _%_, _≤_, _<_}
 use mathlib.Core.Path.{_≡_, refl, sym, ap, _∙_}
 use mathlib.Core.Bool.{Bool, true, false, _||_, cond}
 use mathlib.Core.List.{List}
-use mathlib.Core.Logic.{inl, inr}
+use mathlib.Core.Logic.{_⊎_, inl, inr}
 use native.Mathlib.Omega.{arith}
-use lib.Dec.{eqb}
-use lib.ListN.{length, getD, set, replicate}
+use lib.Dec.{eqb, ltb}
+use lib.ListN.{length, getD, set, List·getD-eq-default}
 use lib.Seq.{getD-set-same, getD-set-other}
-use borrow.Author.Tests.{ne-eqb, eqb-true, eqb-false, not-true}
+use borrow.Author.Tests.{eq-eqb, ne-eqb, eqb-true, eqb-false, ltb-true, ltb-false, not-true}
+use Rattle.bounded.specs.Bounded.{firstBelow}
 use Rattle.bounded.proofs.Truth.{or-true, or-false, and-true, and-put, bool, clash, same}
 use Rattle.bounded.proofs.Laws.{any-none}
-use Rattle.keys.specs.Keys.{member, adding}
-use Rattle.keys.proofs.Laws.{adding-same, adding-other}
+use Rattle.keys.specs.Keys.{member}
+use Rattle.layout.proofs.Laws.{portion-at, portion-length}
 use Rattle.tables.specs.Lists.{writeCount, writeKey}
 use Rattle.tables.specs.Sites.{siteCount, siteKeys}
+use Rattle.tables.specs.Concern.{concerns}
+use Rattle.tables.specs.Fits.{Fits}
 use Rattle.tables.specs.declared.Tables.{Tables}
-use Rattle.rules.specs.Cells.{cell, versionIn, nobody}
+use Rattle.rules.specs.Cells.{placeIn, cell, versionIn, nobody}
+use Rattle.rules.specs.Queue.{queuedIn, waits}
 use Rattle.rules.specs.Votes.{holdsVote}
+use Rattle.rules.specs.Asked.{verdictAt}
+use Rattle.steps.specs.declared.Place.{Place}
 use Rattle.steps.specs.declared.Version.{Version}
-use Rattle.refusals.specs.Refusals.{Fits, deliverRefusalIn, carryRefusalIn}
-use Rattle.search.specs.Search.{Parts, parts, closing, todoIn}
-use Rattle.search.specs.Known.{any, excludes, KnowsClosing, KnowsStuck, KnowsPassed, Knows, firstPair, shared, knownFirst, joined, knownClosed, knownDelivered, knownCarried}
-use Rattle.search.specs.declared.Known.{Known}
-use Rattle.search.specs.declared.Todo.the-variants.{Close, Deliver, Carry}
-use Rattle.search.proofs.Laws.{stored-true, replicated}
-use Rattle.search.proofs.Frames.{cell-other, close-has, verdict-same, room-same, close-back, deliver-site, deliver-same, Carries, carry-has, carry-same}
-use Rattle.search.proofs.Pair.{Says, next-says, pair-passed, pair-carries}
-use Rattle.search.proofs.Tried.{excludes-none, closing-at, stuck-at, passed-at}
+use Rattle.refusals.specs.Refusals.{deliverRefusalIn, carryRefusalIn}
+use Rattle.search.specs.Search.{Parts, closing, nowhere, closesFirstIn, firstClosingIn, firstDeliveringIn, firstCarriedIn, firstFromIn, firstToIn, todoIn}
+use Rattle.search.specs.Order.{rankOf, Ordered}
+use Rattle.search.specs.Known.{any, excludes, KnowsClosing, KnowsAt, KnowsStuck, PassedTo, KnowsPassed, codesIn, stuckIn, passedIn, lowAt, topAt, openAt, Knows, shared, joined, closedParts, deliveredParts}
+use Rattle.search.specs.declared.Todo.{Todo}
+use Rattle.search.specs.declared.Todo.the-variants.{Close, Deliver, Carry, Nothing}
+use Rattle.search.proofs.Laws.{stored-true, first-has}
+use Rattle.search.proofs.Frames.{cell-other, close-has, close-put, verdict-same, room-same, close-back, deliver-site, deliver-same, carry-has, carry-same}
+use Rattle.search.proofs.Pair.{next-says}
+use Rattle.search.proofs.Tried.{excludes-none}
+use Rattle.search.proofs.Order.{order-first, order-none, head-first}
 
--- ---- codes
+-- ---- what is known, entry by entry of the list
+
+-- the code of site s
+code-at : (l : List ℕ) (s : ℕ) → s < 16 → getD (codesIn l) s any ≡ getD l s 0
+code-at l s h = portion-at 0 (λ c. c) l 0 16 s any h ∙ ap (λ k. getD l k 0) (omega arith)
+
+-- the pairs passed of t
+pass-at : (l : List ℕ) (t : ℕ) → t < 128 → getD (passedIn l) t 0 ≡ getD l (80 + t) 0
+pass-at l t h = portion-at 0 (λ p. p) l 80 128 t 0 h
+
+pub closing-get : (T : Tables) (w : Parts) (l : List ℕ) → KnowsClosing T w (codesIn l) → (s : ℕ) → s < 16 → KnowsAt T w s (getD l s 0)
+closing-get T w l k s h t x z = k s t (rw (code-at l s h) x) z
+
+pub closing-put : (T : Tables) (w : Parts) (l : List ℕ) → ((s : ℕ) → s < 16 → KnowsAt T w s (getD l s 0)) → KnowsClosing T w (codesIn l)
+closing-put T w l h s t x z = elim (bool (ltb s 16)) [
+  | inl e ↦ let q = ltb-true s 16 e in h s q t (rw (code-at l s q) at x) z
+  | inr e ↦ excludes-none (getD (codesIn l) s any) t
+      (List·getD-eq-default (codesIn l) any (omega (arith, portion-length 0 (λ (c : ℕ). c) l 0 16, ltb-false s 16 e))) x
+]
+
+module _ (T : Tables) (places : List Place) (delivered : List Bool) (closed l : List ℕ) where
+  pub stuck-get : KnowsStuck T places delivered closed (stuckIn l) → (s : ℕ) → s < 16 → getD l (16 + s) 0 ≡ 1 → deliverRefusalIn T places delivered closed s ≡ 0 → ⊥
+  stuck-get k s h e z = k s (portion-at 0 (λ x. eqb x 1) l 16 16 s false h ∙ eq-eqb _ _ e) z
+
+  pub stuck-put : ((s : ℕ) → s < 16 → getD l (16 + s) 0 ≡ 1 → deliverRefusalIn T places delivered closed s ≡ 0 → ⊥) → KnowsStuck T places delivered closed (stuckIn l)
+  stuck-put h s x z = elim (bool (ltb s 16)) [
+    | inl e ↦ let q = ltb-true s 16 e in h s q (eqb-true _ _ (sym (portion-at 0 (λ x. eqb x 1) l 16 16 s false q) ∙ x)) z
+    | inr e ↦ clash x (List·getD-eq-default (stuckIn l) false (omega (arith, portion-length 0 (λ x. eqb x 1) l 16 16, ltb-false s 16 e)))
+  ]
+
+module _ (T : Tables) (cast carried l : List ℕ) where
+  pub passed-get : KnowsPassed T cast carried (passedIn l) → (t : ℕ) → t < 128 → PassedTo T cast carried t (getD l (80 + t) 0)
+  passed-get k t h = rw (pass-at l t h) at (k t)
+
+  pub passed-put : ((t : ℕ) → t < 128 → PassedTo T cast carried t (getD l (80 + t) 0)) → KnowsPassed T cast carried (passedIn l)
+  passed-put h t = elim (bool (ltb t 128)) [
+    | inl e ↦ let q = ltb-true t 128 e in rw (pass-at l t q) (h t q)
+    | inr e ↦ λ p m. absurd (omega (arith, List·getD-eq-default (passedIn l) 0 {n = t} (omega (arith, portion-length 0 (λ (p : ℕ). p) l 80 128, ltb-false t 128 e))))
+  ]
+
+-- ---- a store of x at i
+
+pub put-same : (l l′ : List ℕ) (i x : ℕ) → (l′ ≡ set l i x) × (i < length l) → getD l′ i 0 ≡ x
+put-same l l′ i x h = ap (λ k. getD k i 0) (h .0) ∙ getD-set-same l i x 0 (h .1)
+
+pub put-other : (l l′ : List ℕ) (i x : ℕ) → (l′ ≡ set l i x) × (i < length l) → (j : ℕ) → (j ≡ i → ⊥) → getD l′ j 0 ≡ getD l j 0
+put-other l l′ i x h j d = ap (λ k. getD k j 0) (h .0) ∙ getD-set-other l i j x 0 d
+
+-- ---- at first
+
+-- who is past the last transaction is in no queue
+pub queued-low : (delivered : List Bool) (closed : List ℕ) (s u : ℕ) → length delivered ≡ 2048 → queuedIn delivered closed s u ≡ true → u < 128
+queued-low delivered closed s u long h = elim (bool (ltb (u * 16 + s) 2048)) [
+  | inl e ↦ omega (arith, ltb-true (u * 16 + s) 2048 e)
+  | inr e ↦ clash (and-true (cell false delivered u s) (eqb (cell 0 closed u s) 0) h .0) (List·getD-eq-default delivered false (omega (arith, ltb-false (u * 16 + s) 2048 e)))
+]
+
+pub knows-first : (T : Tables) (w : Parts) (order l : List ℕ) → Ordered (w .places) (T .txns) order → length order ≡ 128 → length (w .delivered) ≡ 2048
+    → ((s : ℕ) → s < 16 → (getD l s 0 ≡ 129) × (getD l (64 + s) 0 ≡ 128))
+    → ((j : ℕ) → 16 ≤ j → (j < 64 → getD l j 0 ≡ 0) × (80 ≤ j → getD l j 0 ≡ 0))
+    → Knows T w order l
+knows-first T w order l o long wide sites rest = record {
+  ordered = o;
+  closing = closing-put T w l (λ s h t x z. excludes-none (getD l s 0) t (sites s h .0) x);
+  stuck = stuck-put T (w .places) (w .delivered) (w .closed) l (λ s h e z. absurd (omega (arith, rest (16 + s) (omega arith) .0 (omega arith))));
+  passed = passed-put T (w .cast) (w .carried) l (λ t h p m z. absurd (omega (arith, rest (80 + t) (omega arith) .1 (omega arith))));
+  next = λ s i h m. absurd (omega (arith, rest (32 + s) (omega arith) .0 (omega arith)));
+  low = λ s i h m. absurd (omega (arith, rest (48 + s) (omega arith) .0 (omega arith)));
+  top = λ s i h m. elim (bool (queuedIn (w .delivered) (w .closed) s (getD order i nobody))) [
+    | inl e ↦ absurd (omega (arith, queued-low (w .delivered) (w .closed) s (getD order i nobody) wide e, List·getD-eq-default order nobody {n = i} (omega (arith, sites s h .1))))
+    | inr e ↦ e
+  ];
+  opened = λ i m. absurd (omega (arith, rest 208 (omega arith) .1 (omega arith)));
+}
+
+-- ---- after CLOSE
+
+-- the head of a queue that is between positions p and q
+pub head-is : (places : List Place) (n : ℕ) (order : List ℕ) (delivered : List Bool) (closed : List ℕ) (s p q : ℕ) → n ≤ nobody → Ordered places n order → length delivered ≡ 2048
+    → ((i : ℕ) → i < p → queuedIn delivered closed s (getD order i nobody) ≡ false)
+    → ((i : ℕ) → q ≤ i → queuedIn delivered closed s (getD order i nobody) ≡ false)
+    → (p < q → queuedIn delivered closed s (getD order p nobody) ≡ true)
+    → cond (ltb p q) (getD order p nobody) nobody ≡ firstBelow n (placeIn places) (queuedIn delivered closed s) nobody
+head-is places n order delivered closed s p q fits o long low top here = elim (bool (ltb p q)) [
+  | inl e ↦
+      let h = here (ltb-true p q e) in
+      rw e (sym (order-first places n order fits o (queuedIn delivered closed s) p (λ j m _. low j m) (queued-low delivered closed s (getD order p nobody) long h) h))
+  | inr e ↦ rw e (sym (order-none places n order fits o (queuedIn delivered closed s) (λ j _. elim (bool (ltb j p)) [
+    | inl m ↦ low j (ltb-true j p m)
+    | inr m ↦ top j (omega (arith, ltb-false p q e, ltb-false j p m))
+  ])))
+]
+
+-- what the search for a CLOSE finds can be closed
+one-closes : (T : Tables) (w : Parts) (s : ℕ) → Fits T → closesFirstIn T w s < nobody → closing T w (closesFirstIn T w s) s ≡ 0
+unfolding closesFirstIn
+one-closes T w s fits h = eqb-true _ _ (first-has (T .txns) (placeIn (w .places)) (λ t. eqb (closing T w t s) 0) nobody (fits .txns) h .passes)
+
+first-closes : (T : Tables) (w : Parts) → Fits T → firstClosingIn T w < nowhere → closesFirstIn T w (firstClosingIn T w) < nobody
+unfolding firstClosingIn
+first-closes T w fits h = ltb-true _ _ (first-has (siteCount T) (λ i. 0) (λ s. ltb (closesFirstIn T w s) nobody) nowhere (fits .sites) h .passes)
+
+-- so what comes next can be
+abbrev Shuts : Tables → Parts → Todo → Type 0
+Shuts T w (Close t s) = closing T w t s ≡ 0
+Shuts T w (Deliver s) = Unit {0}
+Shuts T w (Carry t from to) = Unit {0}
+Shuts T w Nothing = Unit {0}
+
+todo-shuts : (T : Tables) (w : Parts) → Fits T → Shuts T w (todoIn T w)
+unfolding todoIn
+todo-shuts T w fits = by (ltb (firstClosingIn T w) nowhere) (ltb d nowhere) (ltb t nobody) refl
+  where
+    d : ℕ
+    d = firstDeliveringIn T (w .places) (w .delivered) (w .closed)
+
+    t : ℕ
+    t = firstCarriedIn T (w .places) (w .cast) (w .carried)
+
+    f : ℕ
+    f = firstFromIn T (w .cast) (w .carried) t
+
+    by : (a b c : Bool) → ltb (firstClosingIn T w) nowhere ≡ a
+        → Shuts T w (cond a (Close (closesFirstIn T w (firstClosingIn T w)) (firstClosingIn T w)) (cond b (Deliver d) (cond c (Carry t f (firstToIn T (w .cast) (w .carried) t f)) Nothing)))
+    by true b c p = one-closes T w (firstClosingIn T w) fits (first-closes T w fits (ltb-true _ _ p))
+    by false true c p = tt
+    by false false true p = tt
+    by false false false p = tt
+
+next-shuts : (T : Tables) (w : Parts) (t s : ℕ) → Fits T → todoIn T w ≡ Close t s → closing T w t s ≡ 0
+next-shuts T w t s fits e = rw e at (todo-shuts T w fits)
+
+-- CLOSE of t at s changes what s has closed and stores: its queue loses t, other sites' judgements and every CARRY's stay
+module _ (T : Tables) (fits : Fits T) (w : Parts) (versions : List Version) (t s c : ℕ) (next : todoIn T w ≡ Close t s) (new : 0 < c) (long : length (w .closed) ≡ 2048) where
+  same-closed : (u r : ℕ) → r < 16 → (u ≡ t → r ≡ s → ⊥) → cell 0 (set (w .closed) (t * 16 + s) c) u r ≡ cell 0 (w .closed) u r
+  same-closed u r l d = cell-other 0 (w .closed) t s u r c (next-says T w (Close t s) fits next) l d
+
+  now-closed : cell 0 (set (w .closed) (t * 16 + s) c) t s ≡ c
+  now-closed = getD-set-same (w .closed) (t * 16 + s) c 0
+      (omega (arith, fits .txns, close-has T w t s (next-shuts T w t s fits next) .txn, next-says T w (Close t s) fits next))
+
+  -- who is in a queue now was there before
+  left : (u r : ℕ) → r < 16 → queuedIn (w .delivered) (w .closed) r u ≡ false → queuedIn (w .delivered) (set (w .closed) (t * 16 + s) c) r u ≡ false
+  left u r l h = elim (bool (queuedIn (w .delivered) (set (w .closed) (t * 16 + s) c) r u)) [
+    | inr e ↦ e
+    | inl e ↦
+        let (a, b) = and-true (cell false (w .delivered) u r) (eqb (cell 0 (set (w .closed) (t * 16 + s) c) u r) 0) e in
+        let d : u ≡ t → r ≡ s → ⊥ = λ x y. absurd (omega (arith, now-closed, rw (x, y) at (eqb-true (cell 0 (set (w .closed) (t * 16 + s) c) u r) 0 b))) in
+        clash (and-put _ _ a (rw (same-closed u r l d) at b)) h
+  ]
+
+  -- where s could close but one, which was t, it can close its head
+  pub head-knows : (code : ℕ) → (code ≡ any → ⊥) → KnowsAt T w s code
+      → KnowsAt T (closedParts w versions t s c) s (firstBelow (T .txns) (placeIn (w .places)) (queuedIn (w .delivered) (set (w .closed) (t * 16 + s) c) s) nobody)
+  head-knows code one k u h z =
+      let w′ = closedParts w versions t s c in
+      let g = close-has T w′ u s z in
+      let d : u ≡ t → ⊥ = λ x. absurd (omega (arith, now-closed, rw x at (g .unclosed))) in
+      let only : (x : ℕ) → closing T w x s ≡ 0 → x ≡ code = λ x y. elim (same code x) [ inl e ↦ sym e | inr q ↦ absurd (k x (rw (ne-eqb code any one, ne-eqb code x q)) y) ] in
+      elim (same (verdictAt T (w .cast) (w .carried) u s) 1) [
+        | inl e ↦
+            let f = firstBelow (T .txns) (placeIn (w .places)) (queuedIn (w .delivered) (w′ .closed) s) nobody in
+            let q = sym (head-first (w .places) (w .delivered) (w′ .closed) (T .txns) u s (fits .txns) (g .txn) (and-put _ _ (g .delivered) (eq-eqb _ _ (g .unclosed)))) ∙ g .head e in
+            clash q (or-false (eqb f any) (eqb f u) (not-true _ h) .1)
+        | inr e ↦ d (only u (close-put T w u s (record {
+          txn = g .txn;
+          site = g .site;
+          concerned = g .concerned;
+          unclosed = sym (same-closed u s (next-says T w (Close t s) fits next) (λ x _. d x)) ∙ g .unclosed;
+          delivered = g .delivered;
+          known = g .known;
+          head = λ x. absurd (e x);
+          room = λ x. absurd (e x);
+        })) ∙ sym (only t (next-shuts T w t s fits next)))
+      ]
+
+  pub knows-closed : ((u i : ℕ) → u < T .txns → i < writeCount T u → writeKey T u i < 64)
+      → ((r x : ℕ) → (r ≡ s → ⊥) → x < 64 → versionIn versions r x ≡ versionIn (w .versions) r x)
+      → length (w .delivered) ≡ 2048
+      → (order l l′ : List ℕ) (p : ℕ) → Knows T w order l
+      → ((j : ℕ) → (j ≡ s → ⊥) → (j ≡ 16 + s → ⊥) → (j ≡ 48 + s → ⊥) → getD l′ j 0 ≡ getD l j 0)
+      → getD l′ (16 + s) 0 ≡ 0
+      → lowAt l′ s ≡ p
+      → ((i : ℕ) → lowAt l s ≤ i → i < p → queuedIn (w .delivered) (set (w .closed) (t * 16 + s) c) s (getD order i nobody) ≡ false)
+      → (p < topAt l s → queuedIn (w .delivered) (set (w .closed) (t * 16 + s) c) s (getD order p nobody) ≡ true)
+      → (getD l′ s 0 ≡ any) ⊎ ((getD l s 0 ≡ any → ⊥) × (getD l′ s 0 ≡ cond (ltb p (topAt l s)) (getD order p nobody) nobody))
+      → Knows T (closedParts w versions t s c) order l′
+  knows-closed written kept wide order l l′ p k other unstuck here passes head told = record {
+    ordered = k .ordered;
+    closing = closing-put T w′ l′ (λ r h. elim (same r s) [
+      | inl e ↦ rw e code
+      | inr d ↦ λ u x z. closing-get T w l (k .closing) r h u (rw (other r d (λ e. absurd (omega arith)) (λ e. absurd (omega arith))) at x) (closes u r d z)
+    ]);
+    stuck = stuck-put T (w .places) (w .delivered) (w′ .closed) l′ (λ r h x z. elim (same r s) [
+      | inl e ↦ absurd (omega (arith, rw e at x))
+      | inr d ↦ stuck-get T (w .places) (w .delivered) (w .closed) l (k .stuck) r h (sym (other (16 + r) (λ e. absurd (omega (arith, site))) (λ e. d (omega arith)) (λ e. absurd (omega (arith, site)))) ∙ x) (delivers r d z)
+    ]);
+    passed = passed-put T (w .cast) (w .carried) l′ (λ u h. rw (pass u) (passed-get T (w .cast) (w .carried) l (k .passed) u h));
+    next = λ r i h m. k .next r i h (rw (other (32 + r) (λ e. absurd (omega (arith, site))) (λ e. absurd (omega (arith, site))) (λ e. absurd (omega (arith, site)))) at m);
+    low = λ r i h m. elim (same r s) [
+      | inl e ↦ rw e (lowest i (rw (e, here) at m))
+      | inr d ↦ left (getD order i nobody) r h (k .low r i h (rw (other (48 + r) (λ e. absurd (omega (arith, site))) (λ e. absurd (omega (arith, site))) (λ e. d (omega arith))) at m))
+    ];
+    top = λ r i h m. left (getD order i nobody) r h (k .top r i h (rw (other (64 + r) (λ e. absurd (omega (arith, site))) (λ e. absurd (omega (arith, site))) (λ e. absurd (omega (arith, site)))) at m));
+    opened = λ i m h. rw (pass-at l′ (getD order i nobody) h, pass (getD order i nobody), ← pass-at l (getD order i nobody) h)
+        (k .opened i (rw (other 208 (λ e. absurd (omega (arith, site))) (λ e. absurd (omega (arith, site))) (λ e. absurd (omega (arith, site)))) at m) h);
+  }
+    where
+      w′ : Parts
+      w′ = closedParts w versions t s c
+
+      site : s < 16
+      site = next-says T w (Close t s) fits next
+
+      pass : (u : ℕ) → getD l′ (80 + u) 0 ≡ getD l (80 + u) 0
+      pass u = other (80 + u) (λ e. absurd (omega (arith, site))) (λ e. absurd (omega (arith, site))) (λ e. absurd (omega (arith, site)))
+
+      lowest : (i : ℕ) → i < p → queuedIn (w .delivered) (w′ .closed) s (getD order i nobody) ≡ false
+      lowest i m = elim (bool (ltb i (lowAt l s))) [
+        | inl q ↦ left (getD order i nobody) s site (k .low s i site (ltb-true _ _ q))
+        | inr q ↦ passes i (ltb-false _ _ q) m
+      ]
+
+      code : KnowsAt T w′ s (getD l′ s 0)
+      code = elim told [
+        | inl e ↦ λ u x z. excludes-none (getD l′ s 0) u e x
+        | inr q ↦ rw (
+          q .1,
+          head-is (w .places) (T .txns) order (w .delivered) (w′ .closed) s p (topAt l s) (fits .txns) (k .ordered) wide lowest
+              (λ i m. left (getD order i nobody) s site (k .top s i site m)) head,
+        )
+            (head-knows (getD l s 0) (q .0) (closing-get T w l (k .closing) s site))
+      ]
+
+      closes : (u r : ℕ) → (r ≡ s → ⊥) → closing T w′ u r ≡ 0 → closing T w u r ≡ 0
+      closes u r d z =
+          let b : r < 16 = omega (arith, close-has T w′ u r z .site, fits .sites) in
+          close-back T w w′ u r refl (same-closed u r b (λ _ e. d e)) refl
+          (λ x m q. rw (same-closed x r b (λ _ e. d e)) q)
+          refl
+          (λ m. room-same (w .versions) versions (T .writes) (writeCount T u) u r (siteKeys T r) (λ i n. kept r (writeKey T u i) d (written u i m n)))
+          z
+
+      delivers : (r : ℕ) → (r ≡ s → ⊥) → deliverRefusalIn T (w .places) (w .delivered) (w′ .closed) r ≡ 0 → deliverRefusalIn T (w .places) (w .delivered) (w .closed) r ≡ 0
+      delivers r d z =
+          let b : r < 16 = omega (arith, deliver-site T (w .places) (w .delivered) (w′ .closed) r z, fits .sites) in
+          sym (deliver-same T (w .places) (w .delivered) (w .delivered) (w .closed) (w′ .closed) r (λ u m. refl) (λ u m. same-closed u r b (λ _ e. d e))) ∙ z
+
+-- ---- after DELIVER
 
 -- whom a code excludes once t has joined it excluded before, and it is not t
 joined-excludes : (c t u : ℕ) → u < nobody → excludes (joined c t) u ≡ true → (excludes c u ≡ true) × (u ≡ t → ⊥)
@@ -46,165 +302,115 @@ joined-excludes c t u l h = elim (bool (eqb c nobody || eqb c t)) [
       ]
 ]
 
--- where only t can be closed at s that could not be before
-closing-joined : (T : Tables) → Fits T → (w w′ : Parts) (codes : List ℕ) (t s : ℕ) → ((u r : ℕ) → (u ≡ t → r ≡ s → ⊥) → closing T w′ u r ≡ 0 → closing T w u r ≡ 0)
-    → KnowsClosing T w codes → KnowsClosing T w′ (set codes s (joined (getD codes s any) t))
-closing-joined T fits w w′ codes t s back k = closing-at T w w′ codes s (joined (getD codes s any) t) (λ u r d. back u r (λ _ e. d e))
-    (λ u h z. let (a, b) = joined-excludes (getD codes s any) t u (omega (arith, close-has T w′ u s z .txn, fits .txns)) h in k s u a (back u s (λ e _. b e) z))
-    k
-
--- ---- at first
-
-pub knows-first : (T : Tables) (w : Parts) → Knows T w knownFirst
-unfolding knownFirst
-knows-first T w = record {
-  closing = λ s t h z. excludes-none (getD (replicate 16 any) s any) t (replicated 16 s any) h;
-  stuck = λ s h z. clash h (replicated 16 s false);
-  passed = λ t p l z. absurd (omega (arith, replicated {A = ℕ} 128 t 0));
-}
-
--- ---- after CLOSE
-
--- CLOSE changes what s has closed and stores: other sites' judgements and every CARRY's stay
-pub knows-closed : (T : Tables) (w : Parts) (k : Known) (t s c : ℕ) (versions : List Version) → Fits T
-    → ((u i : ℕ) → u < T .txns → i < writeCount T u → writeKey T u i < 64)
-    → todoIn T w ≡ Close t s
-    → Knows T w k
-    → ((r x : ℕ) → (r ≡ s → ⊥) → x < 64 → versionIn versions r x ≡ versionIn (w .versions) r x)
-    → Knows T (parts versions (w .places) (w .delivered) (set (w .closed) (t * 16 + s) c) (w .cast) (w .carried)) (knownClosed k s)
-unfolding knownClosed
-knows-closed T w k t s c versions fits low next g kept = record {
-  closing = closing-at T w w′ (k .closing) s any closes (λ u h z. excludes-none any u refl h) (g .closing);
-  stuck = stuck-at T (w .places) (w .delivered) (w .delivered) (w .closed) (w′ .closed) (k .stuck) s false delivers (λ h z. clash h refl) (g .stuck);
-  passed = g .passed;
-}
-  where
-    w′ : Parts
-    w′ = parts versions (w .places) (w .delivered) (set (w .closed) (t * 16 + s) c) (w .cast) (w .carried)
-
-    same-closed : (u r : ℕ) → r < siteCount T → (r ≡ s → ⊥) → cell 0 (w′ .closed) u r ≡ cell 0 (w .closed) u r
-    same-closed u r l d = cell-other 0 (w .closed) t s u r c (next-says T w (Close t s) fits next) (omega (arith, fits .sites)) (λ _ e. d e)
-
-    closes : (u r : ℕ) → (r ≡ s → ⊥) → closing T w′ u r ≡ 0 → closing T w u r ≡ 0
-    closes u r d z =
-        let l = close-has T w′ u r z .site in
-        close-back T w w′ u r refl (same-closed u r l d) refl
-        (λ x m q. rw (same-closed x r l d) q)
-        refl
-        (λ m. room-same (w .versions) versions (T .writes) (writeCount T u) u r (siteKeys T r) (λ i n. kept r (writeKey T u i) d (low u i m n)))
-        z
-
-    delivers : (r : ℕ) → (r ≡ s → ⊥) → deliverRefusalIn T (w′ .places) (w′ .delivered) (w′ .closed) r ≡ 0 → deliverRefusalIn T (w .places) (w .delivered) (w .closed) r ≡ 0
-    delivers r d z = sym (deliver-same T (w .places) (w .delivered) (w .delivered) (w .closed) (w′ .closed) r (λ u m. refl) (λ u m. same-closed u r (deliver-site T (w′ .places) (w′ .delivered) (w′ .closed) r z) d)) ∙ z
-
--- ---- after DELIVER
+-- who waits where more was delivered waited before
+waits-kept : (p : ℕ) (d d′ c : Bool) → (d ≡ true → d′ ≡ true) → waits p d c ≡ false → waits p d′ c ≡ false
+waits-kept p false false c g h = h
+waits-kept p true true c g h = h
+waits-kept p true false c g h = clash (g refl) refl
+waits-kept p false true c g h = elim (bool (ltb 0 p)) [ inl e ↦ rw e | inr e ↦ rw e ]
 
 -- DELIVER of t at s changes the queue of s, which grows, and the vote of s on t: those who hold it may judge t anew
-pub knows-delivered : (T : Tables) (w : Parts) (k : Known) (t s v : ℕ) → Fits T → todoIn T w ≡ Deliver s → Knows T w k
-    → Knows T (parts (w .versions) (w .places) (set (w .delivered) (t * 16 + s) true) (w .closed) (set (w .cast) (t * 16 + s) v) (w .carried))
-    (knownDelivered k t s (shared (w .carried) (siteCount T) t s))
-unfolding knownDelivered
-knows-delivered T w k t s v fits next g = record {
-  closing = codes (shared (w .carried) (siteCount T) t s) refl;
-  stuck = stuck-at T (w .places) (w .delivered) (w′ .delivered) (w .closed) (w .closed) (k .stuck) s false delivers (λ h z. clash h refl) (g .stuck);
-  passed = passed-at T (w .cast) (w′ .cast) (w .carried) (w .carried) (k .passed) t 0 carries (λ p l z. absurd (omega arith)) (g .passed);
-}
-  where
-    w′ : Parts
-    w′ = parts (w .versions) (w .places) (set (w .delivered) (t * 16 + s) true) (w .closed) (set (w .cast) (t * 16 + s) v) (w .carried)
+module _ (T : Tables) (fits : Fits T) (w : Parts) (t s v : ℕ) (next : todoIn T w ≡ Deliver s) where
+  other : {A : Type 0} (d : A) (l : List A) (x : A) (u r : ℕ) → r < 16 → (u ≡ t → r ≡ s → ⊥) → cell d (set l (t * 16 + s) x) u r ≡ cell d l u r
+  other d l x u r m h = cell-other d l t s u r x (next-says T w (Deliver s) fits next) m h
 
-    other : {A : Type 0} (d : A) (l : List A) (x : A) (u r : ℕ) → r < siteCount T → (u ≡ t → r ≡ s → ⊥) → cell d (set l (t * 16 + s) x) u r ≡ cell d l u r
-    other d l x u r m h = cell-other d l t s u r x (next-says T w (Deliver s) fits next) (omega (arith, fits .sites)) h
+  -- nobody holds the vote of s on t yet
+  votes : shared (w .carried) (siteCount T) t s ≡ false → (u r : ℕ) → r < siteCount T → (u ≡ t → r ≡ s → ⊥)
+      → (f : ℕ) → f < siteCount T → holdsVote (cell 0 (w .cast) u r) (cell 0 (w .carried) u r) r f ≡ true → cell 0 (set (w .cast) (t * 16 + s) v) u f ≡ cell 0 (w .cast) u f
+  votes e u r l d f m q = other 0 (w .cast) v u f (omega (arith, fits .sites)) (λ x y.
+      clash (rw (ne-eqb f r (λ a. d x (sym a ∙ y)), x, y) at q) (unfold shared in any-none (siteCount T) (λ a. member (cell 0 (w .carried) t a) s) e r l))
 
-    -- nobody holds the vote of s on t yet
-    votes : shared (w .carried) (siteCount T) t s ≡ false → (u r : ℕ) → r < siteCount T → (u ≡ t → r ≡ s → ⊥)
-        → (f : ℕ) → f < siteCount T → holdsVote (cell 0 (w .cast) u r) (cell 0 (w .carried) u r) r f ≡ true → cell 0 (w′ .cast) u f ≡ cell 0 (w .cast) u f
-    votes e u r l d f m q = other 0 (w .cast) v u f m (λ x y.
-        clash (rw (ne-eqb f r (λ a. d x (sym a ∙ y)), x, y) at q) (unfold shared in any-none (siteCount T) (λ a. member (cell 0 (w .carried) t a) s) e r l))
+  closes : shared (w .carried) (siteCount T) t s ≡ false → (u r : ℕ) → (u ≡ t → r ≡ s → ⊥) → closing T (deliveredParts w t s v) u r ≡ 0 → closing T w u r ≡ 0
+  closes e u r d z =
+      let w′ = deliveredParts w t s v in
+      let l = close-has T w′ u r z .site in
+      let b : r < 16 = omega (arith, fits .sites) in
+      close-back T w w′ u r refl refl (other false (w .delivered) true u r b d)
+      (λ x m q. let (a, b) = and-true (cell false (w .delivered) x r) (eqb (cell 0 (w .closed) x r) 0) q in and-put _ _ (stored-true (w .delivered) (t * 16 + s) (x * 16 + r) a) b)
+      (verdict-same T (w .cast) (w′ .cast) (w .carried) (w .carried) u r (other 0 (w .cast) v u r b d) refl (votes e u r l d))
+      (λ m. refl)
+      z
 
-    closes : shared (w .carried) (siteCount T) t s ≡ false → (u r : ℕ) → (u ≡ t → r ≡ s → ⊥) → closing T w′ u r ≡ 0 → closing T w u r ≡ 0
-    closes e u r d z =
-        let l = close-has T w′ u r z .site in
-        close-back T w w′ u r refl refl (other false (w .delivered) true u r l d)
-        (λ x m q. let (a, b) = and-true (cell false (w .delivered) x r) (eqb (cell 0 (w .closed) x r) 0) q in and-put _ _ (stored-true (w .delivered) (t * 16 + s) (x * 16 + r) a) b)
-        (verdict-same T (w .cast) (w′ .cast) (w .carried) (w .carried) u r (other 0 (w .cast) v u r l d) refl (votes e u r l d))
-        (λ m. refl)
-        z
+  -- so t joins those that s can close
+  pub codes-joined : (l l′ : List ℕ) → KnowsClosing T w (codesIn l) → shared (w .carried) (siteCount T) t s ≡ false
+      → ((r : ℕ) → r < 16 → (r ≡ s → ⊥) → getD l′ r 0 ≡ getD l r 0) → getD l′ s 0 ≡ joined (getD l s 0) t
+      → (r : ℕ) → r < 16 → KnowsAt T (deliveredParts w t s v) r (getD l′ r 0)
+  codes-joined l l′ k e kept here r h u x z = elim (same r s) [
+    | inl q ↦
+        let (a, b) = joined-excludes (getD l s 0) t u (omega (arith, close-has T (deliveredParts w t s v) u r z .txn, fits .txns)) (rw (q, here) at x) in
+        closing-get T w l k s (next-says T w (Deliver s) fits next) u a (closes e u s (λ p _. b p) (rw q at z))
+    | inr d ↦ closing-get T w l k r h u (rw (kept r h d) at x) (closes e u r (λ _ q. d q) z)
+  ]
 
-    codes : (b : Bool) → shared (w .carried) (siteCount T) t s ≡ b → KnowsClosing T w′ (cond b (replicate 16 any) (set (k .closing) s (joined (getD (k .closing) s any) t)))
-    codes true e = λ r u h z. excludes-none (getD (replicate 16 any) r any) u (replicated 16 r any) h
-    codes false e = closing-joined T fits w w′ (k .closing) t s (closes e) (g .closing)
+  pub knows-delivered : (order l l′ : List ℕ) (p : ℕ) → getD order p nobody ≡ t → t < T .txns → Knows T w order l
+      → ((j : ℕ) → 16 ≤ j → (j ≡ 16 + s → ⊥) → (j ≡ 48 + s → ⊥) → (j ≡ 64 + s → ⊥) → (j ≡ 80 + t → ⊥) → (j ≡ 208 → ⊥) → getD l′ j 0 ≡ getD l j 0)
+      → getD l′ (16 + s) 0 ≡ 0
+      → getD l′ (80 + t) 0 ≡ 0
+      → (lowAt l′ s ≤ lowAt l s) × (lowAt l′ s ≤ p)
+      → (topAt l s ≤ topAt l′ s) × (p < topAt l′ s)
+      → (openAt l′ ≤ openAt l) × (openAt l′ ≤ p)
+      → ((r : ℕ) → r < 16 → KnowsAt T (deliveredParts w t s v) r (getD l′ r 0))
+      → Knows T (deliveredParts w t s v) order l′
+  knows-delivered order l l′ p here txn k frame unstuck fresh lower upper opener codes = record {
+    ordered = k .ordered;
+    closing = closing-put T w′ l′ codes;
+    stuck = stuck-put T (w .places) (w′ .delivered) (w .closed) l′ (λ r h x z. elim (same r s) [
+      | inl e ↦ absurd (omega (arith, rw e at x))
+      | inr d ↦ stuck-get T (w .places) (w .delivered) (w .closed) l (k .stuck) r h (sym (kept (16 + r) (omega arith) (omega arith) (λ e. d (omega arith)) (λ e. absurd (omega (arith, site))) (λ e. absurd (omega (arith, site)))) ∙ x) (delivers r d z)
+    ]);
+    passed = passed-put T (w′ .cast) (w .carried) l′ (λ u h q m z. elim (same u t) [
+      | inl e ↦ absurd (omega (arith, rw e at m))
+      | inr d ↦ passed-get T (w .cast) (w .carried) l (k .passed) u h q (rw (pass u h d) at m) (carries u (q / 16) (q % 16) d z)
+    ]);
+    next = λ r i h m.
+        let u = getD order i nobody in
+        waits-kept (placeIn (w .places) u) (cell false (w .delivered) u r) (cell false (w′ .delivered) u r) (concerns T u r)
+        (stored-true (w .delivered) (t * 16 + s) (u * 16 + r))
+        (k .next r i h (rw (kept (32 + r) (omega arith) (omega arith) (λ e. absurd (omega (arith, site))) (λ e. absurd (omega (arith, site))) (λ e. absurd (omega (arith, site)))) at m));
+    low = λ r i h m. elim (same r s) [
+      | inl e ↦ let m′ = rw e at m in queue (getD order i nobody) r h (λ q _. apart i (λ a. absurd (omega (arith, lower))) q) (k .low r i h (rw e (omega (arith, lower))))
+      | inr d ↦ queue (getD order i nobody) r h (λ _ e. d e) (k .low r i h (rw (kept (48 + r) (omega arith) (omega arith) (λ e. absurd (omega (arith, site))) (λ e. d (omega arith)) (λ e. absurd (omega (arith, site)))) at m))
+    ];
+    top = λ r i h m. elim (same r s) [
+      | inl e ↦ let m′ = rw e at m in queue (getD order i nobody) r h (λ q _. apart i (λ a. absurd (omega (arith, upper))) q) (k .top r i h (rw e (omega (arith, upper))))
+      | inr d ↦ queue (getD order i nobody) r h (λ _ e. d e) (k .top r i h (rw (kept (64 + r) (omega arith) (omega arith) (λ e. absurd (omega (arith, site))) (λ e. absurd (omega (arith, site))) (λ e. d (omega arith))) at m))
+    ];
+    opened = λ i m h.
+        rw (pass-at l′ (getD order i nobody) h, pass (getD order i nobody) h (apart i (λ a. absurd (omega (arith, opener)))), ← pass-at l (getD order i nobody) h)
+        (k .opened i (omega (arith, opener)) h);
+  }
+    where
+      w′ : Parts
+      w′ = deliveredParts w t s v
 
-    delivers : (r : ℕ) → (r ≡ s → ⊥) → deliverRefusalIn T (w′ .places) (w′ .delivered) (w′ .closed) r ≡ 0 → deliverRefusalIn T (w .places) (w .delivered) (w .closed) r ≡ 0
-    delivers r d z =
-        let l = deliver-site T (w′ .places) (w′ .delivered) (w′ .closed) r z in
-        sym (deliver-same T (w .places) (w .delivered) (w′ .delivered) (w .closed) (w .closed) r (λ u m. other false (w .delivered) true u r l (λ _ e. d e)) (λ u m. refl)) ∙ z
+      site : s < 16
+      site = next-says T w (Deliver s) fits next
 
-    carries : (u f r : ℕ) → (u ≡ t → ⊥) → carryRefusalIn T (w′ .cast) (w′ .carried) u f r ≡ 0 → carryRefusalIn T (w .cast) (w .carried) u f r ≡ 0
-    carries u f r d z =
-        let c = carry-has T (w′ .cast) (w′ .carried) u f r z in
-        sym (carry-same T (w .cast) (w′ .cast) (w .carried) (w .carried) u f r (other 0 (w .cast) v u f (c .giver) (λ e _. d e)) (other 0 (w .cast) v u r (c .taker) (λ e _. d e)) refl) ∙ z
+      -- entries of sites
+      kept : (j : ℕ) → 16 ≤ j → j < 80 → (j ≡ 16 + s → ⊥) → (j ≡ 48 + s → ⊥) → (j ≡ 64 + s → ⊥) → getD l′ j 0 ≡ getD l j 0
+      kept j g h a b c = frame j g a b c (λ e. absurd (omega arith)) (λ e. absurd (omega arith))
 
--- ---- after CARRY
+      -- and of transactions
+      pass : (u : ℕ) → u < 128 → (u ≡ t → ⊥) → getD l′ (80 + u) 0 ≡ getD l (80 + u) 0
+      pass u h d = frame (80 + u) (omega arith) (λ e. absurd (omega (arith, site))) (λ e. absurd (omega (arith, site))) (λ e. absurd (omega (arith, site))) (λ e. d (omega arith)) (λ e. absurd (omega arith))
 
--- CARRY of the vote of f on t to s changes what s holds of t: its judgement on t, and that this vote can be carried to it no more
-pub knows-carried : (T : Tables) (w : Parts) (k : Known) (t f s : ℕ) → Fits T → length (w .carried) ≡ 2048 → todoIn T w ≡ Carry t f s → Knows T w k
-    → Knows T (parts (w .versions) (w .places) (w .delivered) (w .closed) (w .cast) (set (w .carried) (t * 16 + s) (adding (cell 0 (w .carried) t s) f))) (knownCarried k t f s)
-unfolding knownCarried
-knows-carried T w k t f s fits long next g = record {
-  closing = closing-joined T fits w w′ (k .closing) t s closes (g .closing);
-  stuck = g .stuck;
-  passed = passed-at T (w .cast) (w .cast) (w .carried) (w′ .carried) (k .passed) t (f * 16 + s + 1) carries none (g .passed);
-}
-  where
-    w′ : Parts
-    w′ = parts (w .versions) (w .places) (w .delivered) (w .closed) (w .cast) (set (w .carried) (t * 16 + s) (adding (cell 0 (w .carried) t s) f))
+      -- t stands nowhere else
+      apart : (i : ℕ) → (i ≡ p → ⊥) → getD order i nobody ≡ t → ⊥
+      apart i d e =
+          let a = k .ordered .is i (omega (arith, fits .txns)) .1 in
+          let b = k .ordered .is p (omega (arith, fits .txns)) .1 in
+          d (sym a ∙ ap (rankOf (w .places) (T .txns)) (e ∙ sym here) ∙ b)
 
-    says : Says T w (Carry t f s)
-    says = next-says T w (Carry t f s) fits next
+      queue : (u r : ℕ) → r < 16 → (u ≡ t → r ≡ s → ⊥) → queuedIn (w .delivered) (w .closed) r u ≡ false → queuedIn (w′ .delivered) (w .closed) r u ≡ false
+      queue u r h d x = rw (other false (w .delivered) true u r h d) x
 
-    other : (u r : ℕ) → r < siteCount T → (u ≡ t → r ≡ s → ⊥) → cell 0 (w′ .carried) u r ≡ cell 0 (w .carried) u r
-    other u r m h = cell-other 0 (w .carried) t s u r (adding (cell 0 (w .carried) t s) f) (says .1) (omega (arith, fits .sites)) h
+      delivers : (r : ℕ) → (r ≡ s → ⊥) → deliverRefusalIn T (w .places) (w′ .delivered) (w .closed) r ≡ 0 → deliverRefusalIn T (w .places) (w .delivered) (w .closed) r ≡ 0
+      delivers r d z =
+          let b : r < 16 = omega (arith, deliver-site T (w .places) (w′ .delivered) (w .closed) r z, fits .sites) in
+          sym (deliver-same T (w .places) (w .delivered) (w′ .delivered) (w .closed) (w .closed) r (λ u m. other false (w .delivered) true u r b (λ _ e. d e)) (λ u m. refl)) ∙ z
 
-    closes : (u r : ℕ) → (u ≡ t → r ≡ s → ⊥) → closing T w′ u r ≡ 0 → closing T w u r ≡ 0
-    closes u r d z = close-back T w w′ u r refl refl refl (λ x m q. q)
-        (verdict-same T (w .cast) (w .cast) (w .carried) (w′ .carried) u r refl (other u r (close-has T w′ u r z .site) d) (λ f l q. refl))
-        (λ m. refl)
-        z
-
-    -- before the step the vote could be carried
-    was : Carries T (w .cast) (w .carried) t f s
-    was =
-        let p = firstPair T (w .cast) (w .carried) t in
-        let e = says .2 in
-        let a : p / 16 ≡ f = omega (arith, says .0, says .1) in
-        let b : p % 16 ≡ s = omega (arith, says .0, says .1) in
-        carry-has T (w .cast) (w .carried) t f s (rw (a, b) at (pair-carries T (w .cast) (w .carried) t (omega (arith, says .0, says .1))))
-
-    here : cell 0 (w′ .carried) t s ≡ adding (cell 0 (w .carried) t s) f
-    here = getD-set-same (w .carried) (t * 16 + s) (adding (cell 0 (w .carried) t s) f) 0 (omega (arith, fits .txns, fits .sites, was .txn, was .taker))
-
-    -- who is not f was handed to s before, if now
-    members : (a b : ℕ) → b < siteCount T → (a ≡ f → b ≡ s → ⊥) → member (cell 0 (w′ .carried) t b) a ≡ member (cell 0 (w .carried) t b) a
-    members a b l d = elim (same b s) [
-      | inl e ↦ rw (e, here) (adding-other (cell 0 (w .carried) t s) f a (λ q. d q e) (was .lacks))
-      | inr q ↦ rw (other t b l (λ _ e. q e))
-    ]
-
-    -- of the pairs up to this one none can carry now
-    none : (p : ℕ) → p < f * 16 + s + 1 → carryRefusalIn T (w′ .cast) (w′ .carried) t (p / 16) (p % 16) ≡ 0 → ⊥
-    none p l z =
-        let c = carry-has T (w′ .cast) (w′ .carried) t (p / 16) (p % 16) z in
-        elim (same p (f * 16 + s)) [
-          | inl e ↦
-              let a : p / 16 ≡ f = omega (arith, says .0, says .1) in
-              let b : p % 16 ≡ s = omega (arith, says .0, says .1) in
-              clash (adding-same (cell 0 (w .carried) t s) f (was .lacks)) (rw (a, b, here) at (c .lacks))
-          | inr d ↦ pair-passed T (w .cast) (w .carried) t p (omega (arith, says .2))
-              (sym (carry-same T (w .cast) (w .cast) (w .carried) (w′ .carried) t (p / 16) (p % 16) refl refl (members (p / 16) (p % 16) (c .taker) (λ a b. d (omega arith)))) ∙ z)
-        ]
-
-    carries : (u a b : ℕ) → (u ≡ t → ⊥) → carryRefusalIn T (w′ .cast) (w′ .carried) u a b ≡ 0 → carryRefusalIn T (w .cast) (w .carried) u a b ≡ 0
-    carries u a b d z =
-        let c = carry-has T (w′ .cast) (w′ .carried) u a b z in
-        sym (carry-same T (w .cast) (w .cast) (w .carried) (w′ .carried) u a b refl refl (ap (λ m. member m a) (other u b (c .taker) (λ e _. d e)))) ∙ z
+      carries : (u f r : ℕ) → (u ≡ t → ⊥) → carryRefusalIn T (w′ .cast) (w .carried) u f r ≡ 0 → carryRefusalIn T (w .cast) (w .carried) u f r ≡ 0
+      carries u f r d z =
+          let c = carry-has T (w′ .cast) (w .carried) u f r z in
+          sym (carry-same T (w .cast) (w′ .cast) (w .carried) (w .carried) u f r
+          (other 0 (w .cast) v u f (omega (arith, c .giver, fits .sites)) (λ e _. d e)) (other 0 (w .cast) v u r (omega (arith, c .taker, fits .sites)) (λ e _. d e)) refl) ∙ z

@@ -2,4 +2,10 @@ pub mod Laws
 pub mod Frames
 pub mod Pair
 pub mod Tried
+pub mod Order
+pub mod Positions
+pub mod Stored
+pub mod Closing
+pub mod Carrying
 pub mod Knows
+pub mod Handing

@@ -16,7 +16,8 @@ use Rattle.tables.specs.Concern.{local}
 use Rattle.tables.specs.declared.Tables.{Tables}
 use Rattle.rules.specs.Cells.{placeIn, nobody}
 use Rattle.steps.specs.declared.Place.{Place}
-use Rattle.refusals.specs.Refusals.{Fits, carryRefusalIn}
+use Rattle.tables.specs.Fits.{Fits}
+use Rattle.refusals.specs.Refusals.{carryRefusalIn}
 use Rattle.search.specs.Search.{Parts, nowhere, closesFirstIn, firstClosingIn, firstDeliveringIn, firstToIn, firstFromIn, firstCarriedIn, todoIn}
 use Rattle.search.specs.Known.{PassedTo, firstPair}
 use Rattle.search.specs.declared.Todo.{Todo}

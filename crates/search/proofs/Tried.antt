@@ -1,27 +1,25 @@
 -- What is known where one entry is stored, and what the searches find, given what is known.
 -- Assumes nothing.
 use Prim.Native.Nat.{ℕ, _/_, _%_, _≤_, _<_}
-use mathlib.Core.Path.{_≡_, sym, _∙_}
-use mathlib.Core.Bool.{Bool, true, false, cond}
+use mathlib.Core.Path.{_≡_, sym}
+use mathlib.Core.Bool.{Bool, true, false}
 use mathlib.Core.List.{List}
 use mathlib.Core.Logic.{inl, inr}
 use native.Mathlib.Omega.{arith}
-use lib.Dec.{eqb, ltb}
-use lib.ListN.{length, getD, set}
-use lib.Seq.{getD-set-same, getD-set-other}
-use borrow.Author.Tests.{eq-eqb, ne-eqb, eqb-true, lt-ltb, ltb-true, ltb-false}
-use Rattle.bounded.specs.Bounded.{countBelow}
-use Rattle.bounded.proofs.Truth.{bool, clash, same}
-use Rattle.bounded.proofs.Laws.{first-is, sum-less}
+use lib.Dec.{eqb}
+use lib.ListN.{getD, set}
+use lib.Seq.{getD-set-other}
+use borrow.Author.Tests.{eq-eqb, ne-eqb, eqb-true}
+use Rattle.bounded.proofs.Truth.{clash, same}
 use Rattle.tables.specs.declared.Tables.{Tables}
 use Rattle.rules.specs.Cells.{placeIn, nobody}
 use Rattle.steps.specs.declared.Place.{Place}
-use Rattle.refusals.specs.Refusals.{Fits, deliverRefusalIn, carryRefusalIn}
-use Rattle.search.specs.Search.{Parts, closing, nowhere, closesFirstIn, firstFromIn, firstCarriedIn}
-use Rattle.search.specs.Known.{any, excludes, KnowsClosing, KnowsAt, KnowsStuck, PassedTo, KnowsPassed, firstPair, firstOpen}
+use Rattle.tables.specs.Fits.{Fits}
+use Rattle.refusals.specs.Refusals.{deliverRefusalIn, carryRefusalIn}
+use Rattle.search.specs.Search.{Parts, closing, closesFirstIn}
+use Rattle.search.specs.Known.{any, excludes, KnowsClosing, KnowsAt, KnowsStuck, PassedTo, KnowsPassed}
 use Rattle.search.proofs.Laws.{stored, first-only, first-none, first-has, first-lacks}
 use Rattle.search.proofs.Frames.{close-has}
-use Rattle.search.proofs.Pair.{pair-none, pair-from, from-pair}
 
 -- ---- one entry stored, after a step from w to w′ or none: the others stay known where what w′ accepts w did
 
@@ -79,50 +77,3 @@ module _ (T : Tables) (fits : Fits T) (w : Parts) (s c : ℕ) (one : c ≡ any �
 pub none-closes : (T : Tables) → Fits T → (w : Parts) (s : ℕ) → nobody ≤ closesFirstIn T w s → (t : ℕ) → closing T w t s ≡ 0 → ⊥
 unfolding closesFirstIn
 none-closes T fits w s l t z = first-lacks (T .txns) (placeIn (w .places)) (λ t. eqb (closing T w t s) 0) nobody (fits .txns) l t (close-has T w t s z .txn) (eq-eqb _ _ z)
-
--- ---- CARRY
-
-module _ (T : Tables) (fits : Fits T) (places : List Place) (cast carried passed : List ℕ) (k : KnowsPassed T cast carried passed) where
-  -- who has a vote to carry has pairs left
-  left : (t : ℕ) → ltb (firstFromIn T cast carried t) nowhere ≡ true → ltb (getD passed t 0) 256 ≡ true
-  left t h = elim (bool (ltb (getD passed t 0) 256)) [
-    | inl e ↦ e
-    | inr e ↦ absurd (omega (arith, from-pair T cast carried t (fits .sites) (ltb-true _ _ h), pair-none T cast carried t (getD passed t 0) (ltb-false _ _ e) (k t)))
-  ]
-
-  -- so where nobody has pairs left, nobody has a vote to carry
-  pub none-open : firstOpen places passed (T .txns) ≡ nobody → firstCarriedIn T places cast carried ≡ nobody
-  unfolding firstOpen firstCarriedIn
-  none-open e = first-none (T .txns) (placeIn places) (λ t. ltb (firstFromIn T cast carried t) nowhere) nobody (fits .txns)
-      (λ t l h. first-lacks (T .txns) (placeIn places) (λ t. ltb (getD passed t 0) 256) nobody (fits .txns) (omega arith) t l (left t h))
-
-  -- and the first that has pairs left is the one, if it has a vote to carry
-  pub open-carries : (t : ℕ) → t ≡ firstOpen places passed (T .txns) → t < nobody → firstPair T cast carried t < 256 → firstCarriedIn T places cast carried ≡ t
-  unfolding firstOpen firstCarriedIn
-  open-carries t e l p =
-      let g = first-has (T .txns) (placeIn places) (λ t. ltb (getD passed t 0) 256) nobody (fits .txns) (rw e at l) in
-      first-only (T .txns) (placeIn places) (λ t. ltb (firstFromIn T cast carried t) nowhere) nobody (fits .txns) t (record {
-        low = rw e (g .low);
-        passes = lt-ltb (firstFromIn T cast carried t) nowhere (rw (pair-from T cast carried t (fits .sites) p) (omega arith));
-        least = λ j m h. rw e (g .least j m (left j h));
-        lower = λ j m h q. rw e (g .lower j m (left j h) (rw e at q));
-      })
-
--- how many have pairs left: one less, once the pairs of one are all tried
-abbrev pub openBelow : ℕ → List ℕ → ℕ
-openBelow n passed = countBelow n (λ t. ltb (getD passed t 0) 256)
-
-pub open-low : (places : List Place) (passed : List ℕ) (n t : ℕ) → n ≤ nobody → t ≡ firstOpen places passed n → (t ≡ nobody → ⊥) → (t < n) × (getD passed t 0 < 256)
-unfolding firstOpen
-open-low places passed n t b e d = elim (first-is n (placeIn places) (λ t. ltb (getD passed t 0) 256) nobody b) [
-  | inl g ↦ rw e (g .low, ltb-true _ _ (g .passes))
-  | inr q ↦ absurd (d (e ∙ q .0))
-]
-
-pub open-less : (n : ℕ) (passed : List ℕ) (t : ℕ) → t < n → t < length passed → getD passed t 0 < 256 → openBelow n (set passed t 256) < openBelow n passed
-open-less n passed t l m h = omega (
-  arith,
-  sum-less n t (λ i. cond (ltb (getD (set passed t 256) i 0) 256) 1 0) (λ i. cond (ltb (getD passed i 0) 256) 1 0) l
-      (λ i q d. rw (getD-set-other passed t i 256 0 d))
-      (rw (getD-set-same passed t 256 0 m, lt-ltb (getD passed t 0) 256 h)),
-)

@@ -1,18 +1,23 @@
 -- What SETTLE remembers of tries that were refused, so as not to try again.
-use Prim.Native.Nat.{ℕ, _+_, _*_, _/_, _%_, _<_}
+use Prim.Native.Nat.{ℕ, zero, suc, _+_, _*_, _/_, _%_, _≤_, _<_}
 use mathlib.Core.Bool.{Bool, false, true, not, _||_, cond}
 use mathlib.Core.List.{List}
 use mathlib.Core.Path.{_≡_}
-use lib.Dec.{eqb, ltb}
-use lib.ListN.{getD, set, replicate}
-use Rattle.bounded.specs.Bounded.{anyBelow, firstBelow, leastBelow}
-use Rattle.keys.specs.Keys.{member}
+use lib.Dec.{eqb}
+use lib.ListN.{getD, set}
+use Rattle.bounded.specs.Bounded.{anyBelow, leastBelow}
+use Rattle.keys.specs.Keys.{member, adding}
+use Rattle.tables.specs.Concern.{concerns}
 use Rattle.tables.specs.declared.Tables.{Tables}
+use Rattle.layout.specs.Layout.{portion}
 use Rattle.rules.specs.Cells.{placeIn, cell, nobody}
+use Rattle.rules.specs.Queue.{queuedIn, waits}
 use Rattle.steps.specs.declared.Place.{Place}
+use Rattle.steps.specs.declared.Version.{Version}
 use Rattle.refusals.specs.Refusals.{deliverRefusalIn, carryRefusalIn}
-use Rattle.search.specs.Search.{Parts, closing}
-use Rattle.search.specs.declared.Known.{Known}
+use Rattle.search.specs.Search.{Parts, parts, closing, todoIn}
+use Rattle.search.specs.Order.{Ordered}
+use Rattle.search.specs.declared.Todo.the-variants.{Carry}
 
 -- any transaction
 abbrev pub any : ℕ
@@ -42,47 +47,83 @@ PassedTo T cast carried t n = (p : ℕ) → p < n → carryRefusalIn T cast carr
 abbrev pub KnowsPassed : Tables → List ℕ → List ℕ → List ℕ → Type 0
 KnowsPassed T cast carried passed = (t : ℕ) → PassedTo T cast carried t (getD passed t 0)
 
-pub record Knows (T : Tables) (w : Parts) (k : Known) : Type 0 where
-  pub closing : KnowsClosing T w (k .closing)
-  pub stuck : KnowsStuck T (w .places) (w .delivered) (w .closed) (k .stuck)
-  pub passed : KnowsPassed T (w .cast) (w .carried) (k .passed)
-
 -- the first pair of sites between which a vote on t can be carried, 256 for none
 unfoldable pub firstPair : Tables → List ℕ → List ℕ → ℕ → ℕ
 firstPair T cast carried t = leastBelow 256 (λ p. eqb (carryRefusalIn T cast carried t (p / 16) (p % 16)) 0) 256
 
--- of n transactions, the lowest place that has pairs left
-unfoldable pub firstOpen : List Place → List ℕ → ℕ → ℕ
-firstOpen places passed n = firstBelow n (placeIn places) (λ t. ltb (getD passed t 0) 256) nobody
+-- ---- in one list: of each site its code, whether it is stuck, and three positions; of each transaction the pairs passed; one position
+
+abbrev pub codesIn : List ℕ → List ℕ
+codesIn l = portion 0 (λ c. c) l 0 16
+
+abbrev pub stuckIn : List ℕ → List Bool
+stuckIn l = portion 0 (λ x. eqb x 1) l 16 16
+
+abbrev pub passedIn : List ℕ → List ℕ
+passedIn l = portion 0 (λ p. p) l 80 128
+
+-- of site s: the first position that may wait there, the first and the last that may be in its queue
+abbrev pub nextAt : List ℕ → ℕ → ℕ
+nextAt l s = getD l (32 + s) 0
+
+abbrev pub lowAt : List ℕ → ℕ → ℕ
+lowAt l s = getD l (48 + s) 0
+
+abbrev pub topAt : List ℕ → ℕ → ℕ
+topAt l s = getD l (64 + s) 0
+
+-- the first position whose transaction may have a vote to carry
+abbrev pub openAt : List ℕ → ℕ
+openAt l = getD l 208 0
+
+-- t waits at s
+abbrev pub waitsIn : Tables → Parts → ℕ → ℕ → Bool
+waitsIn T w s t = waits (placeIn (w .places) t) (cell false (w .delivered) t s) (concerns T t s)
+
+-- what l says of the transactions in order is so
+pub record Knows (T : Tables) (w : Parts) (order l : List ℕ) : Type 0 where
+  pub ordered : Ordered (w .places) (T .txns) order
+  pub closing : KnowsClosing T w (codesIn l)
+  pub stuck : KnowsStuck T (w .places) (w .delivered) (w .closed) (stuckIn l)
+  pub passed : KnowsPassed T (w .cast) (w .carried) (passedIn l)
+  pub next : (s i : ℕ) → s < 16 → i < nextAt l s → waitsIn T w s (getD order i nobody) ≡ false
+  pub low : (s i : ℕ) → s < 16 → i < lowAt l s → queuedIn (w .delivered) (w .closed) s (getD order i nobody) ≡ false
+  pub top : (s i : ℕ) → s < 16 → topAt l s ≤ i → queuedIn (w .delivered) (w .closed) s (getD order i nobody) ≡ false
+  pub opened : (i : ℕ) → i < openAt l → getD order i nobody < nobody → 256 ≤ getD (passedIn l) (getD order i nobody) 0
+
+-- the numbers that stand for positions and pairs are such
+pub record Ranged (l : List ℕ) : Type 0 where
+  pub top : (s : ℕ) → s < 16 → topAt l s ≤ 128
+  pub next : (s : ℕ) → s < 16 → nextAt l s ≤ 128
+
+-- ---- after a step
 
 -- the vote of s on t was carried to one of n sites
 unfoldable pub shared : List ℕ → ℕ → ℕ → ℕ → Bool
 shared carried n t s = anyBelow n (λ a. member (cell 0 carried t a) s)
 
--- at first nothing
-unfoldable pub knownFirst : Known
-knownFirst = record { closing = replicate 16 any; stuck = replicate 16 false; passed = replicate 128 0 }
-
 -- beside those of code c, t may be closed now
 unfoldable pub joined : ℕ → ℕ → ℕ
 joined c t = cond (eqb c nobody || eqb c t) t any
 
--- after a CLOSE at s: another may be at the head, and what it blocked may come
-unfoldable pub knownClosed : Known → ℕ → Known
-knownClosed k s = record { closing = set (k .closing) s any; stuck = set (k .stuck) s false; passed = k .passed }
+abbrev pub closedParts : Parts → List Version → ℕ → ℕ → ℕ → Parts
+closedParts w versions t s c = parts versions (w .places) (w .delivered) (set (w .closed) (t * 16 + s) c) (w .cast) (w .carried)
 
--- after t was delivered at s, whose vote on it is new; a vote that others hold already may change their verdicts
-unfoldable pub knownDelivered : Known → ℕ → ℕ → Bool → Known
-knownDelivered k t s others = record {
-  closing = cond others (replicate 16 any) (set (k .closing) s (joined (getD (k .closing) s any) t));
-  stuck = set (k .stuck) s false;
-  passed = set (k .passed) t 0;
-}
+abbrev pub deliveredParts : Parts → ℕ → ℕ → ℕ → Parts
+deliveredParts w t s v = parts (w .versions) (w .places) (set (w .delivered) (t * 16 + s) true) (w .closed) (set (w .cast) (t * 16 + s) v) (w .carried)
 
--- after the vote of from on t was carried to to
-unfoldable pub knownCarried : Known → ℕ → ℕ → ℕ → Known
-knownCarried k t from to = record {
-  closing = set (k .closing) to (joined (getD (k .closing) to any) t);
-  stuck = k .stuck;
-  passed = set (k .passed) t (from * 16 + to + 1);
-}
+abbrev pub carriedParts : Parts → List ℕ → Parts
+carriedParts w carried = parts (w .versions) (w .places) (w .delivered) (w .closed) (w .cast) carried
+
+-- a CARRY that comes next takes the votes carried from c to c′
+pub record CarriesNext (T : Tables) (w : Parts) (c c′ : List ℕ) : Type 0 where
+  pub t : ℕ
+  pub from : ℕ
+  pub to : ℕ
+  pub next : todoIn T (carriedParts w c) ≡ Carry t from to
+  pub leaves : c′ ≡ set c (t * 16 + to) (adding (cell 0 c t to) from)
+
+-- k times
+unfoldable pub Carried : Tables → Parts → ℕ → List ℕ → Type 0
+Carried T w zero c = c ≡ w .carried
+Carried T w (suc k) c = (before : List ℕ) × Carried T w k before × CarriesNext T w before c

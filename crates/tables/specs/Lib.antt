@@ -3,3 +3,4 @@ pub mod Lists
 pub mod Sites
 pub mod Concern
 pub mod Judge
+pub mod Fits

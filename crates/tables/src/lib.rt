@@ -1,11 +1,9 @@
 // The tables of a setup: keys with their first values, groups of sites, transactions; and the questions asked of them.
 ghost use mathlib.Core.Path.{_≡_};
-ghost use Prim.Native.Nat.{ℕ, _*_, _≤_, _<_};
-ghost use lib.ListN.{getD};
+ghost use Prim.Native.Nat.{_*_, _≤_, _<_};
 ghost use Rattle.tables.specs.Empty.{noTables};
-ghost use Rattle.tables.specs.Lists.{rowAt, inRow, twice, present, meets, readCount, writeCount, conflictIn};
+ghost use Rattle.tables.specs.Lists.{inRow, twice, present, readCount, writeCount};
 ghost use Rattle.tables.specs.Sites.{sitesIn, keysFrom};
-ghost use Rattle.tables.specs.Concern.{someIn, allIn, touches, inside, local};
 ghost use Rattle.bounded.specs.Bounded.{firstOf};
 ghost use Rattle.tables.specs.Judge.{keysRefusal, sizeRefusal, groupRefusal, countRefusal, keyRefusal, txnRefusal, someGroup, endRefusal, judge};
 
@@ -50,30 +48,6 @@ pub fn wide(x: u8) -> usize
     x as usize
 }
 
-// How many keys transaction t reads, or writes.
-pub fn count_at(counts: &[u8; 128], t: usize) -> usize
-    requires { ⌜ t < 128 ⌝ }
-    ensures { λ r. ⌜ (r ≡ getD (now (counts .entry)) t 0) × (r < 256) ⌝ }
-{
-    wide(counts[t])
-}
-
-// The i-th key of row t.
-pub fn key_at(row: &[u8; 1024], t: usize, i: usize) -> u8
-    requires { ⌜ (t < 128) × (i < 8) ⌝ }
-    ensures { λ r. ⌜ r ≡ rowAt (now (row .entry)) t i ⌝ }
-{
-    row[t * 8 + i]
-}
-
-// The i-th value of row t.
-pub fn value_at(row: &[u32; 1024], t: usize, i: usize) -> u32
-    requires { ⌜ (t < 128) × (i < 8) ⌝ }
-    ensures { λ r. ⌜ r ≡ rowAt (now (row .entry)) t i ⌝ }
-{
-    row[t * 8 + i]
-}
-
 // How many sites the first n groups have.
 pub fn sites_in(sizes: &[u8; 8], n: u8) -> usize
     requires { ⌜ n ≤ 8 ⌝ }
@@ -107,73 +81,6 @@ pub fn site_keys<'a>(sizes: &'a [u8; 8], masks: &'a [u64; 8], groups: u8, s: usi
     0
 }
 
-// Whether one of the first n keys of row t is in the set m.
-pub fn some_in(row: &[u8; 1024], t: usize, n: usize, m: u64) -> bool
-    requires { ⌜ (t < 128) × (n ≤ 8) ⌝ }
-    ensures { λ r. ⌜ r ≡ someIn (now (row .entry)) t n m ⌝ }
-{
-    let mut i = n;
-    while 0 < i {
-        i -= 1;
-        if keys::has_key(m, row[t * 8 + i]) {
-            return true;
-        }
-    }
-    false
-}
-
-// Whether all of the first n keys of row t are in the set m.
-pub fn all_in(row: &[u8; 1024], t: usize, n: usize, m: u64) -> bool
-    requires { ⌜ (t < 128) × (n ≤ 8) ⌝ }
-    ensures { λ r. ⌜ r ≡ allIn (now (row .entry)) t n m ⌝ }
-{
-    let mut i = n;
-    while 0 < i {
-        i -= 1;
-        if keys::has_key(m, row[t * 8 + i]) {
-            continue;
-        }
-        return false;
-    }
-    true
-}
-
-// Whether R(t) has a site whose keys are the set m.
-pub fn touch<'a>(
-    reads: &'a [u8; 1024],
-    nreads: &'a [u8; 128],
-    writes: &'a [u8; 1024],
-    nwrites: &'a [u8; 128],
-    t: usize,
-    m: u64,
-) -> bool
-    requires { ⌜ (t < 128) × ((getD (now nreads) t 0 ≤ 8) × (getD (now nwrites) t 0 ≤ 8)) ⌝ }
-    ensures { λ r. ⌜ r ≡ touches (now (reads .entry)) (now (nreads .entry)) (now (writes .entry)) (now (nwrites .entry)) t m ⌝ }
-{
-    if some_in(reads, t, wide(nreads[t]), m) {
-        return true;
-    }
-    some_in(writes, t, wide(nwrites[t]), m)
-}
-
-// Whether all keys of t are in the set m.
-pub fn is_inside<'a>(
-    reads: &'a [u8; 1024],
-    nreads: &'a [u8; 128],
-    writes: &'a [u8; 1024],
-    nwrites: &'a [u8; 128],
-    t: usize,
-    m: u64,
-) -> bool
-    requires { ⌜ (t < 128) × ((getD (now nreads) t 0 ≤ 8) × (getD (now nwrites) t 0 ≤ 8)) ⌝ }
-    ensures { λ r. ⌜ r ≡ inside (now (reads .entry)) (now (nreads .entry)) (now (writes .entry)) (now (nwrites .entry)) t m ⌝ }
-{
-    if all_in(reads, t, wide(nreads[t]), m) {
-        return all_in(writes, t, wide(nwrites[t]), m);
-    }
-    false
-}
-
 // Whether k is among the first n keys of row t.
 fn in_row(row: &[u8; 1024], t: usize, n: usize, k: u8) -> bool
     requires { ⌜ (t < 128) × (n ≤ 8) ⌝ }
@@ -187,47 +94,6 @@ fn in_row(row: &[u8; 1024], t: usize, n: usize, k: u8) -> bool
         }
     }
     false
-}
-
-// Whether one of the first n keys of row t is among the first m of the other's row u.
-fn meet<'a>(
-    row: &'a [u8; 1024],
-    t: usize,
-    n: usize,
-    other: &'a [u8; 1024],
-    u: usize,
-    m: usize,
-) -> bool
-    requires { ⌜ ((t < 128) × (n ≤ 8)) × ((u < 128) × (m ≤ 8)) ⌝ }
-    ensures { λ r. ⌜ r ≡ meets (now (row .entry)) t n (now (other .entry)) u m ⌝ }
-{
-    let mut i = n;
-    while 0 < i {
-        i -= 1;
-        if in_row(other, u, m, row[t * 8 + i]) {
-            return true;
-        }
-    }
-    false
-}
-
-// Whether t and u conflict: one reads a key that the other writes.
-pub fn conflict<'a>(
-    reads: &'a [u8; 1024],
-    nreads: &'a [u8; 128],
-    writes: &'a [u8; 1024],
-    nwrites: &'a [u8; 128],
-    t: usize,
-    u: usize,
-) -> bool
-    requires { ⌜ (t < 128) × ((getD (now nreads) t 0 ≤ 8) × (getD (now nwrites) t 0 ≤ 8)) ⌝ }
-    requires { ⌜ (u < 128) × ((getD (now nreads) u 0 ≤ 8) × (getD (now nwrites) u 0 ≤ 8)) ⌝ }
-    ensures { λ r. ⌜ r ≡ conflictIn (now (reads .entry)) (now (nreads .entry)) (now (writes .entry)) (now (nwrites .entry)) t u ⌝ }
-{
-    if meet(reads, t, wide(nreads[t]), writes, u, wide(nwrites[u])) {
-        return true;
-    }
-    meet(reads, u, wide(nreads[u]), writes, t, wide(nwrites[t]))
 }
 
 // Whether one of the first n keys of row t stands there twice.
@@ -332,26 +198,6 @@ fn some_group(masks: &[u64; 8], n: u8, k: u8) -> bool
 }
 
 impl Tables {
-    // Whether each site of R(t) holds all keys of t.
-    pub fn is_local(self, t: usize) -> bool
-        requires { ⌜ (self .groups ≤ 8) × (t < 128) ⌝ }
-        requires { ⌜ (readCount self t ≤ 8) × (writeCount self t ≤ 8) ⌝ }
-        ensures { λ r. ⌜ r ≡ local self t ⌝ }
-    {
-        let mut s = sites_in(&self.sizes, self.groups);
-        while 0 < s {
-            s -= 1;
-            let m = site_keys(&self.sizes, &self.masks, self.groups, s);
-            if touch(&self.reads, &self.nreads, &self.writes, &self.nwrites, t, m) {
-                if is_inside(&self.reads, &self.nreads, &self.writes, &self.nwrites, t, m) {
-                    continue;
-                }
-                return false;
-            }
-        }
-        true
-    }
-
     // The refusal that the keys of transaction t have.
     pub fn key_refusal(self, t: usize) -> u8
         requires { ⌜ t < 128 ⌝ }

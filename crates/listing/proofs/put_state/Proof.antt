@@ -14,14 +14,14 @@ put-txns-requires : tie.Need-put-txns-requires
 put-txns-requires c κs = let u = usable-has _ (c .before .before .before .before .before .before .before .before .pre .0) in (omega (arith, c .before .before .before .before .sites-in .ensures .0, u .sites), (u .txns, omega (arith, c .before .before .before .before .before .before .before .before .pre .1, u .txns)))
 
 put-sites-requires : tie.Need-put-sites-requires
-put-sites-requires c κs = (c .before .before .before .before .before .before .before .before .before .before .before .before .pre .0, omega (arith, c .before .before .before .before .before .before .before .before .before .before .before .before .pre .1, c .before .before .before .put-txns .ensures .1, usable-has _ (c .before .before .before .before .before .before .before .before .before .before .before .before .pre .0) .txns))
+put-sites-requires c κs = let u = usable-has _ (c .before .before .before .before .before .before .before .before .before .before .before .before .before .before .before .before .pre .0) in ((u .groups, (u .sites, u .keys)), omega (arith, c .before .before .before .before .before .before .before .before .before .before .before .before .before .before .before .before .pre .1, c .before .before .before .before .before .before .before .put-txns .ensures .1, u .txns))
 
 same-length : tie.Need-same-length
 same-length c = search needs
 
 returns : tie.Need-returns
 unfolding stateLines
-returns c = (then (rw (c .before .before .before .before .before .before .before .before .before .before .before .sites-in .ensures .0) at (c .before .before .before .before .before .before .put-txns .ensures .0)) (c .before .before .put-sites .ensures .0), omega (arith, c .before .before .before .before .before .before .put-txns .ensures .1, c .before .before .put-sites .ensures .1, usable-has _ (c .before .before .before .before .before .before .before .before .before .before .before .before .before .before .before .pre .0) .txns))
+returns c = (then (rw (c .before .before .before .before .before .before .before .before .before .before .before .before .before .before .before .sites-in .ensures .0) at (c .before .before .before .before .before .before .before .before .before .before .put-txns .ensures .0)) (c .before .before .put-sites .ensures .0), omega (arith, c .before .before .before .before .before .before .before .before .before .before .put-txns .ensures .1, c .before .before .put-sites .ensures .1, usable-has _ (c .before .before .before .before .before .before .before .before .before .before .before .before .before .before .before .before .before .before .before .pre .0) .txns))
 
 pub put-state-spec : {M : Type 1} → statement M
 put-state-spec =

@@ -1,19 +1,22 @@
--- `rules::is_recorded` meets its contract. The loop counts down, and whether the first i reads were recorded is whether all n were.
+-- `rules::is_recorded` meets its contract. The loop counts down, and what holds of the first i reads holds of all n.
 use mathlib.Core.Path.{_≡_, refl}
-use Prim.Native.Nat.{_≤_}
+use Prim.Native.Nat.{_-_, _≤_}
 use native.Mathlib.Omega.{arith}
+use denote.Ref.{now}
 use borrow.Author.Needs.{needs}
 use Rattle.bounded.specs.Bounded.{allBelow}
 use Rattle.bounded.proofs.Laws.{all-down}
+use Rattle.layout.specs.Layout.{theRecorded}
 use Rattle.rules.specs.Votes.{recordedIn}
+use Rattle.rules.proofs.Parts.{recorded-at}
 use Rattle.rules.proofs.is_recorded.Statement.{statement}
 use Rattle.rules.proofs.is_recorded.Tie as tie
 
 abbrev Inv-loop : tie.InvT-loop
-Inv-loop recorded n t i₀ i = (i ≤ n) × (allBelow i (recordedIn recorded t) ≡ allBelow n (recordedIn recorded t))
+Inv-loop flags n t i₀ i = (i ≤ n) × (allBelow i (recordedIn (theRecorded flags) t) ≡ allBelow n (recordedIn (theRecorded flags) t))
 
 abbrev μ-loop : tie.MeasureT-loop
-μ-loop recorded n t i₀ i = i
+μ-loop flags n t i₀ i = i
 
 loop-holds : tie.Need-loop-holds Inv-loop μ-loop
 loop-holds c = (omega arith, refl)
@@ -34,10 +37,10 @@ loop-less : tie.Need-loop-less Inv-loop μ-loop
 loop-less c = search needs
 
 loop-again : tie.Need-loop-again Inv-loop μ-loop
-loop-again c = (omega arith, rw (← c .before .before .before .loop .inv .1, all-down _ _ (c .before .before .loop-test .taken), c .if1 .taken))
+loop-again c = (omega arith, rw (← c .before .before .before .loop .inv .1, all-down _ _ (c .before .before .loop-test .taken), recorded-at (now (c .before .before .before .before .args .flags)) (c .before .before .before .before .args .t) (c .before .before .before .loop .i - 1) (c .before .before .before .before .pre .0) (omega arith), c .if1 .taken))
 
 returns : tie.Need-returns Inv-loop μ-loop
-returns c = rw (← c .before .before .before .loop .inv .1, all-down _ _ (c .before .before .loop-test .taken), c .if1 .left)
+returns c = rw (← c .before .before .before .loop .inv .1, all-down _ _ (c .before .before .loop-test .taken), recorded-at (now (c .before .before .before .before .args .flags)) (c .before .before .before .before .args .t) (c .before .before .before .loop .i - 1) (c .before .before .before .before .pre .0) (omega arith), c .if1 .left)
 
 returns-2 : tie.Need-returns-2 Inv-loop μ-loop
 unfolding allBelow

@@ -1,46 +1,56 @@
--- `rules::next_at` meets its contract. What is found after t turns is `nextIn` of the first t, with its place.
+-- `rules::next_at` meets its contract. What is found after t turns is `nextIn` of the first t, and stands with its place.
 use mathlib.Core.Path.{_≡_, refl, sym}
-use Prim.Native.Nat.{_≤_, _-_}
+use Prim.Native.Nat.{_+_, _-_, _≤_, _<_}
 use native.Mathlib.Omega.{arith}
+use lib.ListN.{getD}
+use denote.Ref.{now}
 use borrow.Author.Needs.{needs}
-use Rattle.bounded.proofs.Laws.{first-up}
 use Rattle.bounded.specs.Bounded.{firstBelow}
-use Rattle.rules.specs.Queue.{nextIn}
+use Rattle.bounded.proofs.Laws.{first-up}
+use Rattle.tables.specs.Sites.{siteKeys}
+use Rattle.tables.specs.declared.Tables.{Tables}
+use Rattle.plan.specs.Plan.{txnsOf, Plan}
+use Rattle.layout.specs.Layout.{thePlaces, theDelivered}
+use Rattle.layout.proofs.Laws.{portion-length}
+use Rattle.steps.specs.Kinds.{place}
 use Rattle.rules.specs.Cells.{placeIn}
-use Rattle.rules.proofs.Queue.{place-found, place-nobody}
+use Rattle.rules.specs.Queue.{nextIn}
+use Rattle.rules.proofs.Parts.{place-at}
+use Rattle.rules.proofs.Queue.{Stands, place-found, place-nobody}
 use Rattle.rules.proofs.next_at.Statement.{statement}
 use Rattle.rules.proofs.next_at.Tie as tie
 
 abbrev Inv-loop : tie.InvT-loop
-Inv-loop delivered reads nreads writes nwrites n m s places found₀ t₀ found t = (t ≤ n) × (found .t ≡ nextIn places delivered reads nreads writes nwrites t m s) × (found .place ≡ placeIn places (found .t))
+Inv-loop plan numbers flags s n found₀ t₀ found t = (t ≤ n) × Stands (thePlaces numbers) found × ((T : Tables) → Plan T plan → found .t ≡ nextIn (thePlaces numbers) (theDelivered flags) (T .reads) (T .nreads) (T .writes) (T .nwrites) t (siteKeys T s) s)
 
 abbrev μ-loop : tie.MeasureT-loop
-μ-loop delivered reads nreads writes nwrites n m s places found₀ t₀ found t = n - t
+μ-loop plan numbers flags s n found₀ t₀ found t = n - t
+
+-- it is one of 128
+index : (c : tie.After-wide Inv-loop μ-loop) → c .wide .result < 128
+index c = omega (arith, c .wide .ensures .0, c .before .loop-test .taken, c .before .before .before .txns .ensures, c .before .before .before .before .pre .0 .txns)
+
+txns-requires : tie.Need-txns-requires Inv-loop μ-loop
+txns-requires c κs = c .pre .0
 
 loop-holds : tie.Need-loop-holds Inv-loop μ-loop
 unfolding nextIn firstBelow
-loop-holds c = (omega arith, refl, sym (place-nobody (c .args .t1) (c .good .0 .1 .0 .1)))
+loop-holds c = (omega arith, (sym (place-nobody (thePlaces (now (c .before .args .numbers))) (portion-length 0 place (now (c .before .args .numbers)) 4096 128)), omega arith), λ T p. refl)
 
-cast-at : tie.Need-cast-at Inv-loop μ-loop
-cast-at c = search needs
-
-mul-p : tie.Need-mul-p Inv-loop μ-loop
-mul-p c = search needs
-
-element-copy-out-p : tie.Need-element-copy-out-p Inv-loop μ-loop
-element-copy-out-p c = search needs
-
-mul-d : tie.Need-mul-d Inv-loop μ-loop
-mul-d c = search needs
-
-add-d : tie.Need-add-d Inv-loop μ-loop
-add-d c = search needs
-
-element-copy-out-d : tie.Need-element-copy-out-d Inv-loop μ-loop
-element-copy-out-d c = search needs
+wide-requires : tie.Need-wide-requires Inv-loop μ-loop
+wide-requires c κs = search needs
 
 is-waiting-requires : tie.Need-is-waiting-requires Inv-loop μ-loop
-is-waiting-requires c κs = (omega (arith, c .before .loop-test .taken, c .before .before .before .pre .0 .0), c .before .before .before .pre .1 _ (c .before .loop-test .taken))
+is-waiting-requires c κs = (index c, c .before .before .before .before .pre .1)
+
+add-sooner : tie.Need-add-sooner Inv-loop μ-loop
+add-sooner c = omega (arith, index (c .before))
+
+mul-sooner : tie.Need-mul-sooner Inv-loop μ-loop
+mul-sooner c = omega (arith, index (c .before))
+
+element-copy-out-sooner : tie.Need-element-copy-out-sooner Inv-loop μ-loop
+element-copy-out-sooner c = omega (arith, index (c .before))
 
 sooner-requires : tie.Need-sooner-requires Inv-loop μ-loop
 sooner-requires c κs = search needs
@@ -49,14 +59,24 @@ add-t : tie.Need-add-t Inv-loop μ-loop
 add-t c = search needs
 
 loop-less : tie.Need-loop-less Inv-loop μ-loop
-loop-less c = omega (arith, c .before .before .before .loop-test .taken)
+loop-less c = omega (arith, c .before .before .before .before .loop-test .taken)
 
 loop-again : tie.Need-loop-again Inv-loop μ-loop
 unfolding nextIn
-loop-again c = (omega (arith, c .before .before .before .loop-test .taken), rw (first-up, ← c .before .before .before .before .loop .inv .1, ← c .before .before .before .before .loop .inv .2, ← c .before .is-waiting .ensures) (c .sooner .ensures .0), place-found (c .before .before .before .before .before .args .t1) (c .before .is-waiting .result) (c .before .before .before .before .loop .t) (c .before .before .before .before .loop .found) _ (c .sooner .ensures .0) (c .sooner .ensures .1) (c .before .before .before .before .loop .inv .2))
+loop-again c =
+    let l : c .before .before .before .before .before .loop .t < txnsOf (now (c .before .before .before .before .before .before .before .args .plan)) = omega (arith, c .before .before .before .before .loop-test .taken, c .before .before .before .before .before .before .txns .ensures) in
+    let q : getD (now (c .before .before .before .before .before .before .before .args .numbers)) (4096 + c .before .before .before .wide .result) 0 ≡ placeIn (thePlaces (now (c .before .before .before .before .before .before .before .args .numbers))) (c .before .before .before .before .before .loop .t) = rw (← c .before .before .before .wide .ensures .0) (sym (place-at (now (c .before .before .before .before .before .before .before .args .numbers)) (c .before .before .before .wide .result) (index (c .before .before .before)))) in
+    let d = rw q at (c .sooner .ensures .0) in
+    let e = rw q at (c .sooner .ensures .1) in (
+      omega (arith, c .before .before .before .before .loop-test .taken),
+      place-found (thePlaces (now (c .before .before .before .before .before .before .before .args .numbers))) (c .before .before .is-waiting .result) (c .before .before .before .before .before .loop .t) (c .before .before .before .before .before .loop .found) _ d e (omega arith) (c .before .before .before .before .before .loop .inv .1),
+      λ T p.
+          let w = rw (c .before .before .before .wide .ensures .0) at (c .before .before .is-waiting .ensures T p (omega (arith, c .before .before .before .wide .ensures .0, p .txns))) in
+          rw (first-up, ← c .before .before .before .before .before .loop .inv .2 T p, ← c .before .before .before .before .before .loop .inv .1 .0, ← w) d,
+    )
 
 returns : tie.Need-returns Inv-loop μ-loop
-returns c = let z : c .before .loop .t ≡ c .before .before .args .n = omega (arith, c .before .loop .inv .0, c .loop-test .left) in rw z at (c .before .loop .inv .1)
+returns c = let z : c .before .loop .t ≡ txnsOf (now (c .before .before .before .args .plan)) = omega (arith, c .before .loop .inv .0, c .loop-test .left, c .before .before .txns .ensures) in (λ T p. rw (z, p .txns) at (c .before .loop .inv .2 T p), c .before .loop .inv .1 .1)
 
 pub next-at-spec : {M : Type 1} → statement M
 next-at-spec =
@@ -64,14 +84,13 @@ next-at-spec =
     (tie.spec
     Inv-loop
     μ-loop
+    txns-requires
     loop-holds
-    cast-at
-    mul-p
-    element-copy-out-p
-    mul-d
-    add-d
-    element-copy-out-d
+    wide-requires
     is-waiting-requires
+    add-sooner
+    mul-sooner
+    element-copy-out-sooner
     sooner-requires
     add-t
     loop-less

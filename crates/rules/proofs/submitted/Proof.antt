@@ -1,20 +1,31 @@
 -- `rules::submitted` meets its contract. The count after t turns is `submittedIn` of the first t, which is t at most.
 use mathlib.Core.Path.{_≡_, refl}
-use Prim.Native.Nat.{_≤_, _-_}
+use Prim.Native.Nat.{_-_, _≤_, _<_}
 use native.Mathlib.Omega.{arith}
+use denote.Ref.{now}
 use borrow.Author.Needs.{needs}
-use Rattle.bounded.proofs.Laws.{sum-up}
 use Rattle.bounded.specs.Bounded.{sumBelow}
+use Rattle.bounded.proofs.Laws.{sum-up}
+use Rattle.plan.specs.Plan.{txnsOf}
+use Rattle.layout.specs.Layout.{thePlaces}
 use Rattle.rules.specs.Queue.{submittedIn}
+use Rattle.rules.proofs.Parts.{place-at}
 use Rattle.rules.proofs.Queue.{submitted-most}
 use Rattle.rules.proofs.submitted.Statement.{statement}
 use Rattle.rules.proofs.submitted.Tie as tie
 
 abbrev Inv-loop : tie.InvT-loop
-Inv-loop n places count₀ t₀ count t = (t ≤ n) × (count ≡ submittedIn places t)
+Inv-loop plan numbers n count₀ t₀ count t = (t ≤ n) × (count ≡ submittedIn (thePlaces numbers) t)
 
 abbrev μ-loop : tie.MeasureT-loop
-μ-loop n places count₀ t₀ count t = n - t
+μ-loop plan numbers n count₀ t₀ count t = n - t
+
+-- it is one of 128
+index : (c : tie.After-wide Inv-loop μ-loop) → c .wide .result < 128
+index c = omega (arith, c .wide .ensures .0, c .before .loop-test .taken, c .before .before .before .txns .ensures, c .before .before .before .before .pre .txns)
+
+txns-requires : tie.Need-txns-requires Inv-loop μ-loop
+txns-requires c κs = search needs
 
 loop-holds : tie.Need-loop-holds Inv-loop μ-loop
 unfolding submittedIn sumBelow
@@ -23,27 +34,30 @@ loop-holds c = (omega arith, refl)
 wide-requires : tie.Need-wide-requires Inv-loop μ-loop
 wide-requires c κs = search needs
 
-mul-p : tie.Need-mul-p Inv-loop μ-loop
-mul-p c = search needs
+add-count-one : tie.Need-add-count-one Inv-loop μ-loop
+add-count-one c = omega (arith, index c)
 
-element-copy-out-p : tie.Need-element-copy-out-p Inv-loop μ-loop
-element-copy-out-p c = search needs
+mul-count-one : tie.Need-mul-count-one Inv-loop μ-loop
+mul-count-one c = omega (arith, index c)
+
+element-copy-out-count-one : tie.Need-element-copy-out-count-one Inv-loop μ-loop
+element-copy-out-count-one c = omega (arith, index c)
 
 count-one-requires : tie.Need-count-one-requires Inv-loop μ-loop
-count-one-requires c κs = omega (arith, c .before .before .loop .inv .0, c .before .before .loop .inv .1, submitted-most (c .before .before .before .args .t1) (c .before .before .loop .t))
+count-one-requires c κs = omega (arith, c .before .before .before .loop .inv .0, c .before .before .before .loop .inv .1, submitted-most (thePlaces (now (c .before .before .before .before .before .args .numbers))) (c .before .before .before .loop .t))
 
 add-t : tie.Need-add-t Inv-loop μ-loop
 add-t c = search needs
 
 loop-less : tie.Need-loop-less Inv-loop μ-loop
-loop-less c = omega (arith, c .before .before .loop-test .taken)
+loop-less c = omega (arith, c .before .before .before .loop-test .taken)
 
 loop-again : tie.Need-loop-again Inv-loop μ-loop
 unfolding submittedIn
-loop-again c = (omega (arith, c .before .before .loop-test .taken), rw (sum-up, ← c .before .before .before .loop .inv .1, ← c .before .wide .ensures .0) (c .count-one .ensures))
+loop-again c = (omega (arith, c .before .before .before .loop-test .taken), rw (sum-up, ← c .before .before .before .before .loop .inv .1, ← c .before .before .wide .ensures .0, place-at (now (c .before .before .before .before .before .before .args .numbers)) (c .before .before .wide .result) (index (c .before .before))) (c .count-one .ensures))
 
 returns : tie.Need-returns Inv-loop μ-loop
-returns c = let z : c .before .loop .t ≡ c .before .before .args .n = omega (arith, c .before .loop .inv .0, c .loop-test .left) in (rw z at (c .before .loop .inv .1), omega (arith, c .before .loop .inv .1, submitted-most (c .before .before .args .t1) (c .before .loop .t)))
+returns c = let z : c .before .loop .t ≡ txnsOf (now (c .before .before .before .args .plan)) = omega (arith, c .before .loop .inv .0, c .loop-test .left, c .before .before .txns .ensures) in (rw z at (c .before .loop .inv .1), omega (arith, c .before .loop .inv .1, submitted-most (thePlaces (now (c .before .before .before .args .numbers))) (c .before .loop .t), c .before .before .before .pre .txns))
 
 pub submitted-spec : {M : Type 1} → statement M
 submitted-spec =
@@ -51,10 +65,12 @@ submitted-spec =
     (tie.spec
     Inv-loop
     μ-loop
+    txns-requires
     loop-holds
     wide-requires
-    mul-p
-    element-copy-out-p
+    add-count-one
+    mul-count-one
+    element-copy-out-count-one
     count-one-requires
     add-t
     loop-less

@@ -1,69 +1,164 @@
 -- `search::first_closing` meets its contract. No site below s has one to close, until one has; what was tried is known.
-use Rattle.search.specs.Search.{parts, nowhere, closesFirstIn, firstClosingIn}
-use Rattle.search.specs.Known.{any, KnowsClosing}
-use Rattle.search.proofs.Laws.{within}
-use Rattle.search.proofs.Tried.{none-closes, closing-at}
-use Rattle.rules.specs.Cells.{nobody}
-use Rattle.tables.specs.Sites.{siteCount}
-use Rattle.bounded.proofs.Laws.{least-up, least-stop}
-use Rattle.bounded.specs.Bounded.{firstBelow, leastBelow}
-use borrow.Author.Tests.{lt-ltb, le-ltb}
-use lib.Dec.{ltb}
-use lib.ListN.{length, length-set}
-use Prim.Native.Nat.{_≤_, _<_, _-_}
-use mathlib.Core.Path.{_≡_, refl, sym, _∙_}
+use Prim.Native.Nat.{_+_, _-_, _≤_, _<_}
+use mathlib.Core.Path.{_≡_, refl}
+use mathlib.Core.Logic.{inl, inr}
 use native.Mathlib.Omega.{arith}
+use lib.Dec.{ltb}
+use denote.Ref.{now}
+use borrow.Author.Tests.{le-ltb}
 use borrow.Author.Needs.{needs}
+use Rattle.bounded.specs.Bounded.{firstBelow, leastBelow}
+use Rattle.bounded.proofs.Laws.{least-up}
+use Rattle.tables.specs.declared.Tables.{Tables}
+use Rattle.tables.specs.Sites.{siteCount}
+use Rattle.plan.specs.Plan.{Plan}
+use Rattle.rules.specs.Cells.{nobody}
+use Rattle.search.specs.Search.{nowhere, closesFirstIn, firstClosingIn}
+use Rattle.search.specs.Known.{Knows, Ranged}
+use Rattle.search.proofs.Stored.{ranged-set}
+use Rattle.search.proofs.Closing.{lent, code-past, knows-at, knows-below, knows-none, knows-moved, first-site}
 use Rattle.search.proofs.first_closing.Statement.{statement}
 use Rattle.search.proofs.first_closing.Tie as tie
 
 abbrev Inv-loop : tie.InvT-loop
-Inv-loop versions places delivered closed cast carried tables n now₀ s₀ now s = (s ≤ n) × (leastBelow s (λ z. ltb (closesFirstIn tables (parts versions places delivered closed cast carried) z) nobody) nowhere ≡ nowhere) × KnowsClosing tables (parts versions places delivered closed cast carried) now × (length now ≡ 16)
+Inv-loop plan order numbers flags marks carried known₀ n s₀ known s = (s ≤ n) × Ranged known × ((T : Tables) → Plan T plan → Knows T (lent numbers flags marks carried) order known₀
+    → Knows T (lent numbers flags marks carried) order known × (leastBelow s (λ z. ltb (closesFirstIn T (lent numbers flags marks carried) z) nobody) nowhere ≡ nowhere))
 
 abbrev μ-loop : tie.MeasureT-loop
-μ-loop versions places delivered closed cast carried tables n now₀ s₀ now s = n - s
+μ-loop plan order numbers flags marks carried known₀ n s₀ known s = n - s
 
-sites-in-requires : tie.Need-sites-in-requires Inv-loop μ-loop
-sites-in-requires c κs = c .before .before .pre .0 .groups
+-- s is a site
+site-low : (c : tie.In-loop Inv-loop μ-loop) → c .before .loop .s < 16
+site-low c = omega (arith, c .loop-test .taken, c .before .before .sites .ensures, c .before .before .before .pre .0 .0 .sites)
 
-cast-n : tie.Need-cast-n Inv-loop μ-loop
-cast-n c = record { fits = omega (arith, c .sites-in .ensures .0, c .before .before .before .pre .0 .sites) }
+-- the position where the queue of s starts is stored
+ranged : (c : tie.After-put Inv-loop μ-loop) → Ranged (c .put .last .0)
+ranged c = rw (c .put .ensures .0) (ranged-set (c .before .before .before .before .before .before .before .before .loop .known) (48 + c .before .before .before .before .before .before .before .before .loop .s) _ (c .before .before .before .before .before .before .before .before .loop .inv .1) (inr (inr (inr (omega arith, omega (arith, site-low (c .before .before .before .before .before .before .before)))))))
+
+-- that is known then, and the first that can be closed at s is found
+found : (c : tie.After-closes-one Inv-loop μ-loop) (T : Tables) → Plan T (now (c .before .before .before .before .before .before .before .before .before .before .before .args .plan)) → Knows T (lent (now (c .before .before .before .before .before .before .before .before .before .before .before .args .numbers)) (now (c .before .before .before .before .before .before .before .before .before .before .before .args .flags)) (now (c .before .before .before .before .before .before .before .before .before .before .before .args .marks)) (now (c .before .before .before .before .before .before .before .before .before .before .before .args .carried))) (now (c .before .before .before .before .before .before .before .before .before .before .before .args .order)) (c .before .before .before .before .before .before .before .before .before .loop .known)
+    → Knows T (lent (now (c .before .before .before .before .before .before .before .before .before .before .before .args .numbers)) (now (c .before .before .before .before .before .before .before .before .before .before .before .args .flags)) (now (c .before .before .before .before .before .before .before .before .before .before .before .args .marks)) (now (c .before .before .before .before .before .before .before .before .before .before .before .args .carried))) (now (c .before .before .before .before .before .before .before .before .before .before .before .args .order)) (c .before .put .last .0) × (c .closes-one .result ≡ closesFirstIn T (lent (now (c .before .before .before .before .before .before .before .before .before .before .before .args .numbers)) (now (c .before .before .before .before .before .before .before .before .before .before .before .args .flags)) (now (c .before .before .before .before .before .before .before .before .before .before .before .args .marks)) (now (c .before .before .before .before .before .before .before .before .before .before .before .args .carried))) (c .before .before .before .before .before .before .before .before .before .loop .s))
+found c T p k =
+    let w = (lent (now (c .before .before .before .before .before .before .before .before .before .before .before .args .numbers)) (now (c .before .before .before .before .before .before .before .before .before .before .before .args .flags)) (now (c .before .before .before .before .before .before .before .before .before .before .before .args .marks)) (now (c .before .before .before .before .before .before .before .before .before .before .before .args .carried))) in
+    let l = c .before .before .before .before .before .before .before .before .before .loop .known in
+    let s = c .before .before .before .before .before .before .before .before .before .loop .s in
+    let low = site-low (c .before .before .before .before .before .before .before .before) in
+    let h = c .before .before .before .head-from .ensures in (
+      rw (c .before .put .ensures .0) (knows-moved T w (now (c .before .before .before .before .before .before .before .before .before .before .before .args .order)) l k s low _ (c .before .put .ensures .1) (h .0)),
+      c .closes-one .ensures T p (omega (arith, c .before .before .before .before .before .before .before .before .loop-test .taken, c .before .before .before .before .before .before .before .before .before .before .sites .ensures)) (knows-at T w (now (c .before .before .before .before .before .before .before .before .before .before .before .args .order)) l k s low) (knows-below T w (now (c .before .before .before .before .before .before .before .before .before .before .before .args .order)) l k s low _ (h .0)) (λ i b. k .top s i low b) (h .1 .0),
+    )
+
+sites-requires : tie.Need-sites-requires Inv-loop μ-loop
+sites-requires c κs = search needs
 
 loop-holds : tie.Need-loop-holds Inv-loop μ-loop
 unfolding firstBelow
-loop-holds c = (omega arith, refl, c .before .before .before .pre .1, c .before .before .before .good .1 .1 .1 .1 .1 .1 .1 .0 .1 .0 .1)
+loop-holds c = (omega arith, c .before .pre .0 .1, λ T p k. (k, refl))
 
-cast-code : tie.Need-cast-code Inv-loop μ-loop
-cast-code c = search needs
+mul-code : tie.Need-mul-code Inv-loop μ-loop
+mul-code c = search needs
 
-array-read-code : tie.Need-array-read-code Inv-loop μ-loop
-array-read-code c = omega (arith, c .loop-test .taken, c .before .before .sites-in .ensures .0, c .before .before .before .before .before .pre .0 .sites)
+element-copy-out-code : tie.Need-element-copy-out-code Inv-loop μ-loop
+element-copy-out-code c = search needs
+
+add-q : tie.Need-add-q Inv-loop μ-loop
+add-q c = search needs
+
+mul-q : tie.Need-mul-q Inv-loop μ-loop
+mul-q c = search needs
+
+element-copy-out-q : tie.Need-element-copy-out-q Inv-loop μ-loop
+element-copy-out-q c = search needs
+
+add-head-from : tie.Need-add-head-from Inv-loop μ-loop
+add-head-from c = search needs
+
+mul-head-from : tie.Need-mul-head-from Inv-loop μ-loop
+mul-head-from c = search needs
+
+element-copy-out-head-from : tie.Need-element-copy-out-head-from Inv-loop μ-loop
+element-copy-out-head-from c = search needs
+
+head-from-requires : tie.Need-head-from-requires Inv-loop μ-loop
+head-from-requires c κs =
+    let low = site-low (c .before .before .before .before) in
+    (low, c .before .before .before .before .before .loop .inv .1 .top (c .before .before .before .before .before .loop .s) low)
+
+add-put : tie.Need-add-put Inv-loop μ-loop
+add-put c = search needs
+
+put-requires : tie.Need-put-requires Inv-loop μ-loop
+put-requires c κs = search needs
 
 closes-one-requires : tie.Need-closes-one-requires Inv-loop μ-loop
-closes-one-requires c κs = let l : c .before .loop .s < siteCount (c .before .before .before .before .before .args .t1) = omega (arith, c .loop-test .taken, c .before .before .sites-in .ensures .0) in (c .before .before .before .before .before .pre .0, (l, λ t h z. c .before .loop .inv .2 (c .before .loop .s) t (rw (within (c .before .loop .now) (c .before .loop .s) 0 any (omega (arith, l, c .before .loop .inv .3, c .before .before .before .before .before .pre .0 .sites))) at h) z))
+closes-one-requires c κs =
+    let low = site-low (c .before .before .before .before .before .before .before) in
+    (c .before .before .before .before .before .before .before .before .before .before .pre .0 .0, (c .before .before .before .before .before .before .before .before .before .before .pre .1, (low, c .before .before .before .before .before .before .before .before .loop .inv .1 .top (c .before .before .before .before .before .before .before .before .loop .s) low)))
+
+mul-result : tie.Need-mul-result Inv-loop μ-loop
+mul-result c = search needs
+
+cast-result : tie.Need-cast-result Inv-loop μ-loop
+cast-result c = search needs
+
+add-result : tie.Need-add-result Inv-loop μ-loop
+add-result c = search needs
 
 returns : tie.Need-returns Inv-loop μ-loop
-unfolding firstClosingIn
-returns c = (sym (least-stop _ _ _ _ (omega (arith, c .before .before .loop-test .taken, c .before .before .before .before .sites-in .ensures .0)) (c .before .before .before .before .before .before .before .pre .0 .sites) (c .before .before .before .loop .inv .1) (lt-ltb _ _ (rw (c .before .closes-one .ensures) at (c .if1 .taken)))), (λ l. c .before .closes-one .ensures, c .before .before .before .loop .inv .2))
+returns c = (
+  λ T p k₀.
+      let (k, none) = c .before .before .before .before .before .before .before .before .before .before .loop .inv .2 T p k₀ in
+      let (known, e) = found (c .before) T p k in
+      (known, ((λ _. first-site T (p .fits) (lent (now (c .before .before .before .before .before .before .before .before .before .before .before .before .args .numbers)) (now (c .before .before .before .before .before .before .before .before .before .before .before .before .args .flags)) (now (c .before .before .before .before .before .before .before .before .before .before .before .before .args .marks)) (now (c .before .before .before .before .before .before .before .before .before .before .before .before .args .carried))) (c .before .before .before .before .before .before .before .before .before .before .loop .s) _ (omega (arith, c .before .before .before .before .before .before .before .before .before .loop-test .taken, c .before .before .before .before .before .before .before .before .before .before .before .sites .ensures, p .sites)) none e (c .if2 .taken)), λ b. absurd (omega (arith, b, c .if2 .taken, site-low (c .before .before .before .before .before .before .before .before .before))))),
+  ranged (c .before .before),
+)
 
-cast-now : tie.Need-cast-now Inv-loop μ-loop
-cast-now c = search needs
-
-array-write-now : tie.Need-array-write-now Inv-loop μ-loop
-array-write-now c = omega (arith, c .before .before .loop-test .taken, c .before .before .before .before .sites-in .ensures .0, c .before .before .before .before .before .before .before .pre .0 .sites)
+put-requires-2 : tie.Need-put-requires-2 Inv-loop μ-loop
+put-requires-2 c κs = search needs
 
 add-s : tie.Need-add-s Inv-loop μ-loop
-add-s c = record { fits = omega (arith, c .before .before .loop-test .taken, c .before .before .before .before .sites-in .ensures .0, c .before .before .before .before .before .before .before .pre .0 .sites) }
+add-s c = search needs
 
 loop-less : tie.Need-loop-less Inv-loop μ-loop
-loop-less c = omega (arith, c .before .before .loop-test .taken)
+loop-less c = search needs
 
 loop-again : tie.Need-loop-again Inv-loop μ-loop
-loop-again c = let w = parts (c .before .before .before .before .before .before .before .args .versions) (c .before .before .before .before .before .before .before .args .places) (c .before .before .before .before .before .before .before .args .delivered .now) (c .before .before .before .before .before .before .before .args .closed .now) (c .before .before .before .before .before .before .before .args .cast .now) (c .before .before .before .before .before .before .before .args .carried .now) in let shut = rw (c .before .closes-one .ensures) at (c .if1 .left) in (omega (arith, c .before .before .loop-test .taken), least-up _ _ _ (c .before .before .before .loop .inv .1) (le-ltb _ _ shut), closing-at (c .before .before .before .before .before .before .before .args .t1) w w (c .before .before .before .loop .now) (c .before .before .before .loop .s) nobody (λ u r d z. z) (λ u h. none-closes (c .before .before .before .before .before .before .before .args .t1) (c .before .before .before .before .before .before .before .pre .0) w (c .before .before .before .loop .s) shut u) (c .before .before .before .loop .inv .2), length-set (c .before .before .before .loop .now) (c .before .before .before .loop .s) nobody ∙ c .before .before .before .loop .inv .3)
+loop-again c =
+    let w = (lent (now (c .before .before .before .before .before .args .numbers)) (now (c .before .before .before .before .before .args .flags)) (now (c .before .before .before .before .before .args .marks)) (now (c .before .before .before .before .before .args .carried))) in
+    let order = now (c .before .before .before .before .before .args .order) in
+    let s = c .before .before .before .loop .s in
+    let low = site-low (c .before .before) in
+    let next : s + 1 ≤ c .before .before .before .before .sites .result = omega (arith, c .before .before .loop-test .taken) in
+    elim (c .if1 .came) [
+      | inl g ↦
+          let d : tie.After-closes-one Inv-loop μ-loop = record { before = record { before = record { before = record { before = record { before = record { before = record { before = c .before; if1 = g .0 }; q = g .1 }; head-from-arg = g .2 }; head-from = g .3 }; put-arg = g .4 }; put = g .5 }; closes-one = g .6 } in (
+            next,
+            rw (g .10, g .9 .ensures .0) (ranged-set (g .5 .last .0) s nobody (ranged (d .before)) (inl (omega arith))),
+            λ T p k₀.
+                let (k, none) = c .before .before .before .loop .inv .2 T p k₀ in
+                let (known, e) = found d T p k in
+                let shut : nobody ≤ closesFirstIn T w s = omega (arith, e, g .7 .left) in
+                (rw (g .10, g .9 .ensures .0) (knows-none T w order (g .5 .last .0) known s low (p .fits) (g .9 .ensures .1) shut), least-up s _ nowhere none (le-ltb _ _ shut)),
+          )
+      | inr g ↦ (
+        next,
+        rw (g .1) (c .before .before .before .loop .inv .1),
+        λ T p k₀.
+            let (k, none) = c .before .before .before .loop .inv .2 T p k₀ in
+            let shut : closesFirstIn T w s ≡ nobody = code-past T (p .fits) w s nobody (p .fits .txns) (λ e. absurd (omega (arith, e))) (rw (g .0 .left) at (knows-at T w order (c .before .before .before .loop .known) k s low)) in
+            (rw (g .1) k, least-up s _ nowhere none (le-ltb (closesFirstIn T w s) nobody (omega (arith, shut)))),
+      )
+    ]
 
 returns-2 : tie.Need-returns-2 Inv-loop μ-loop
 unfolding firstClosingIn
-returns-2 c = let z : c .before .loop .s ≡ c .before .before .sites-in .result = omega (arith, c .before .loop .inv .0, c .loop-test .left) in (sym (rw (z, c .before .before .sites-in .ensures .0) at (c .before .loop .inv .1)), (λ l. absurd (omega (arith, l)), c .before .loop .inv .2))
+returns-2 c = (
+  λ T p k₀.
+      let (k, none) = c .before .loop .inv .2 T p k₀ in
+      let z : c .before .loop .s ≡ siteCount T = omega (arith, c .before .loop .inv .0, c .loop-test .left, c .before .before .sites .ensures, p .sites) in
+      (k, (λ b. absurd (omega (arith, b)), λ _. rw z at none)),
+  c .before .loop .inv .1,
+)
 
 pub first-closing-spec : {M : Type 1} → statement M
 first-closing-spec =
@@ -71,15 +166,25 @@ first-closing-spec =
     (tie.spec
     Inv-loop
     μ-loop
-    sites-in-requires
-    cast-n
+    sites-requires
     loop-holds
-    cast-code
-    array-read-code
+    mul-code
+    element-copy-out-code
+    add-q
+    mul-q
+    element-copy-out-q
+    add-head-from
+    mul-head-from
+    element-copy-out-head-from
+    head-from-requires
+    add-put
+    put-requires
     closes-one-requires
+    mul-result
+    cast-result
+    add-result
     returns
-    cast-now
-    array-write-now
+    put-requires-2
     add-s
     loop-less
     loop-again

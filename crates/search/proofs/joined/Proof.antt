@@ -1,6 +1,6 @@
--- `search::joined` meets its contract. The two tests decide the choice.
-use Rattle.search.specs.Known.{joined}
+-- Each `return` by the tests that led there.
 use borrow.Author.Tests.{eq-eqb, ne-eqb}
+use Rattle.search.specs.Known.{joined}
 use Rattle.search.proofs.joined.Statement.{statement}
 use Rattle.search.proofs.joined.Tie as tie
 

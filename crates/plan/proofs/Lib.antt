@@ -1,0 +1,4 @@
+pub mod Laws
+pub mod Filled
+pub mod Questions
+pub mod Built
