@@ -1,16 +1,15 @@
 -- The laws of tests, sums and searches below a bound: one turn of each, what they say of each number, and where a search stands.
 -- Assumes nothing.
 use Prim.Native.Nat.{ℕ, zero, suc, _+_, _*_, _-_, _≤_, _<_}
-use mathlib.Core.Path.{_≡_, refl, sym, ap, _∙_}
-use mathlib.Core.Bool.{Bool, true, false, _&&_, _||_}
+use mathlib.Core.Path.{_≡_, refl, sym, _∙_}
+use mathlib.Core.Bool.{Bool, true, false, _&&_, _||_, not, cond}
 use mathlib.Core.Logic.{_⊎_, inl, inr}
 use native.Mathlib.Omega.{arith}
 use native.Mathlib.Numerals.{add-one, sub-one}
 use native.Mathlib.Nat.{not-suc-le-zero}
 use lib.Dec.{ltb}
-use lib.ListN.{length, getD}
-use borrow.Author.Tests.{ltb-true, ltb-false, eq-eqb, ne-eqb}
-use Rattle.bounded.specs.Bounded.{anyBelow, allBelow, sumBelow, earlier, firstBelow, leastBelow, orElse, firstOf, listFrom}
+use borrow.Author.Tests.{ltb-true, ltb-false, eq-eqb, ne-eqb, not-true, not-false}
+use Rattle.bounded.specs.Bounded.{anyBelow, allBelow, sumBelow, countBelow, earlier, firstBelow, leastBelow, orElse, firstOf}
 use Rattle.bounded.proofs.Truth.{and-true, and-put, or-true, or-left, or-right, bool, clash, same}
 
 -- ---- one turn
@@ -74,6 +73,11 @@ of-none (suc n) f z g l = let (a, b) = else-none (firstOf n f) (f n) z in go b (
     go b r (inl e) = rw e b
     go b r (inr d) = r (omega arith)
 
+pub of-put : (n : ℕ) (f : ℕ → ℕ) → ((i : ℕ) → i < n → f i ≡ 0) → firstOf n f ≡ 0
+unfolding firstOf
+of-put zero f h = refl
+of-put (suc n) f h = rw (of-put n f (λ i l. h i (omega arith))) (h n (omega arith))
+
 -- ---- what they say of each number
 
 pub any-put : (n : ℕ) (p : ℕ → Bool) (i : ℕ) → i < n → p i ≡ true → anyBelow n p ≡ true
@@ -110,6 +114,33 @@ pub all-put : (n : ℕ) (p : ℕ → Bool) → ((i : ℕ) → i < n → p i ≡ 
 unfolding allBelow
 all-put zero p h = refl
 all-put (suc n) p h = and-put (p n) (allBelow n p) (h n (omega arith)) (all-put n p (λ i l. h i (omega arith)))
+
+-- not all pass: one does not
+pub all-none : (n : ℕ) (p : ℕ → Bool) → allBelow n p ≡ false → (i : ℕ) × (i < n) × (p i ≡ false)
+all-none n p h = elim (bool (anyBelow n (λ i. not (p i)))) [
+  | inl e ↦ let (i, l, q) = any-get n (λ i. not (p i)) e in (i, l, not-true (p i) q)
+  | inr e ↦ clash (all-put n p (λ i l. not-false (p i) (any-none n (λ i. not (p i)) e i l))) h
+]
+
+pub any-lack : (n : ℕ) (p : ℕ → Bool) → ((i : ℕ) → i < n → p i ≡ true → ⊥) → anyBelow n p ≡ false
+any-lack n p h = elim (bool (anyBelow n p)) [ inl e ↦ absurd (let (i, l, q) = any-get n p e in h i l q) | inr e ↦ e ]
+
+-- ---- tests and searches that agree at each number
+
+pub all-same : (n : ℕ) (p q : ℕ → Bool) → ((i : ℕ) → i < n → p i ≡ q i) → allBelow n p ≡ allBelow n q
+unfolding allBelow
+all-same zero p q h = refl
+all-same (suc n) p q h = rw (h n (omega arith), all-same n p q (λ i l. h i (omega arith)))
+
+pub any-same : (n : ℕ) (p q : ℕ → Bool) → ((i : ℕ) → i < n → p i ≡ q i) → anyBelow n p ≡ anyBelow n q
+unfolding anyBelow
+any-same zero p q h = refl
+any-same (suc n) p q h = rw (h n (omega arith), any-same n p q (λ i l. h i (omega arith)))
+
+pub first-same : (n : ℕ) (rank : ℕ → ℕ) (p q : ℕ → Bool) (d : ℕ) → ((i : ℕ) → i < n → p i ≡ q i) → firstBelow n rank p d ≡ firstBelow n rank q d
+unfolding firstBelow
+first-same zero rank p q d h = refl
+first-same (suc n) rank p q d h = rw (h n (omega arith), first-same n rank p q d (λ i l. h i (omega arith)))
 
 -- ---- where a search stands
 
@@ -153,18 +184,31 @@ first-is (suc n) rank p d l = step (firstBelow n rank p d) (first-is n rank p d 
       | inr y ↦ rw y (inl (keep f g (λ _. ltb-false (rank n) (rank f) y)))
     ])
 
--- ---- a list by its elements
+-- ---- what a search answers
 
-pub list-length : {A : Type 0} (i n : ℕ) (f : ℕ → A) → length (listFrom i n f) ≡ n
-unfolding listFrom
-list-length i zero f = refl
-list-length i (suc n) f = ap suc (list-length (suc i) n f)
+module _ (n : ℕ) (rank : ℕ → ℕ) (p : ℕ → Bool) (d : ℕ) (fits : n ≤ d) where
+  -- the first one, if there is one
+  pub first-only : (i : ℕ) → First n rank p i → firstBelow n rank p d ≡ i
+  first-only i f = elim (first-is n rank p d fits) [
+    | inl g ↦
+        let j = firstBelow n rank p d in
+        let a : rank j ≤ rank i = g .least i (f .low) (f .passes) in
+        let b : rank i ≤ rank j = f .least j (g .low) (g .passes) in
+        let e : rank i ≡ rank j = omega arith in
+        omega (arith, f .lower j (g .low) (g .passes) (sym e), g .lower i (f .low) (f .passes) e)
+    | inr q ↦ clash (f .passes) (q .1 i (f .low))
+  ]
 
-pub list-at : {A : Type 0} (i n : ℕ) (f : ℕ → A) (j : ℕ) (d : A) → j < n → getD (listFrom i n f) j d ≡ f (i + j)
-unfolding listFrom
-list-at i zero f j d l = absurd (not-suc-le-zero l)
-list-at i (suc n) f zero d l = ap f (omega arith)
-list-at i (suc n) f (suc j) d l = list-at (suc i) n f j d (omega arith) ∙ ap f (omega arith)
+  -- d, if none passes
+  pub first-none : ((j : ℕ) → j < n → p j ≡ true → ⊥) → firstBelow n rank p d ≡ d
+  first-none h = elim (first-is n rank p d fits) [ inl g ↦ absurd (h (firstBelow n rank p d) (g .low) (g .passes)) | inr q ↦ q .0 ]
+
+  -- and what it answers tells which
+  pub first-has : firstBelow n rank p d < d → First n rank p (firstBelow n rank p d)
+  first-has l = elim (first-is n rank p d fits) [ inl g ↦ g | inr q ↦ absurd (omega (arith, q .0)) ]
+
+  pub first-lacks : d ≤ firstBelow n rank p d → (j : ℕ) → j < n → p j ≡ true → ⊥
+  first-lacks l j k h = elim (first-is n rank p d fits) [ inl g ↦ absurd (omega (arith, g .low)) | inr q ↦ clash h (q .1 j k) ]
 
 -- ---- the lowest number that passes, looked for from below
 
@@ -205,3 +249,38 @@ pub sum-most : (n m : ℕ) (f : ℕ → ℕ) → ((i : ℕ) → i < n → f i �
 unfolding sumBelow
 sum-most zero m f h = omega arith
 sum-most (suc n) m f h = omega (arith, sum-most n m f (λ i l. h i (omega arith)), h n (omega arith))
+
+-- a sum of terms none of which is more is no more
+pub sum-le : (n : ℕ) (f g : ℕ → ℕ) → ((i : ℕ) → i < n → f i ≤ g i) → sumBelow n f ≤ sumBelow n g
+unfolding sumBelow
+sum-le zero f g h = omega arith
+sum-le (suc n) f g h = omega (arith, sum-le n f g (λ i l. h i (omega arith)), h n (omega arith))
+
+-- and less, if one of them is
+pub sum-lt : (n j : ℕ) (f g : ℕ → ℕ) → j < n → ((i : ℕ) → i < n → f i ≤ g i) → f j < g j → sumBelow n f < sumBelow n g
+unfolding sumBelow
+sum-lt zero j f g l h e = absurd (not-suc-le-zero l)
+sum-lt (suc n) j f g l h e = go (same n j) (sum-lt n j f g)
+  where
+    go : (n ≡ j) ⊎ (n ≡ j → ⊥) → (j < n → ((i : ℕ) → i < n → f i ≤ g i) → f j < g j → sumBelow n f < sumBelow n g) → suc (sumBelow n f + f n) ≤ sumBelow n g + g n
+    go (inl d) r = let q : f n < g n = rw d e in omega (arith, sum-le n f g (λ i m. h i (omega arith)))
+    go (inr d) r = omega (arith, r (omega arith) (λ i m. h i (omega arith)) e, h n (omega arith))
+
+-- fewer pass a test that asks more, if one passes only the other
+pub count-less : (n j : ℕ) (p q : ℕ → Bool) → j < n → ((i : ℕ) → p i ≡ true → q i ≡ true) → p j ≡ false → q j ≡ true → countBelow n p < countBelow n q
+count-less n j p q l h a b = sum-lt n j (λ i. cond (p i) 1 0) (λ i. cond (q i) 1 0) l (λ i _. le (p i) (q i) (h i)) (rw (a, b) (omega arith))
+  where
+    le : (x y : Bool) → (x ≡ true → y ≡ true) → cond x 1 0 ≤ cond y 1 0
+    le true y f = rw (f refl) (omega arith)
+    le false y f = omega arith
+
+-- of n at most n pass, and fewer if one does not
+pub count-most : (n : ℕ) (p : ℕ → Bool) → countBelow n p ≤ n
+count-most n p = omega (arith, sum-most n 1 (λ i. cond (p i) 1 0) (λ i l. one (p i)))
+  where
+    one : (b : Bool) → cond b 1 0 ≤ 1
+    one true = omega arith
+    one false = omega arith
+
+pub count-short : (n j : ℕ) (p : ℕ → Bool) → j < n → p j ≡ false → countBelow n p < n
+count-short n j p l h = omega (arith, count-less n j p (λ i. true) l (λ i e. refl) h refl, count-most n (λ i. true))

@@ -16,6 +16,10 @@ pub and-put : (a b : Bool) → a ≡ true → b ≡ true → (a && b) ≡ true
 and-put true b h g = g
 and-put false b h g = h
 
+pub and-false : (b : Bool) → (b && false) ≡ false
+and-false true = refl
+and-false false = refl
+
 pub or-true : (a b : Bool) → (a || b) ≡ true → (a ≡ true) ⊎ (b ≡ true)
 or-true true b h = inl refl
 or-true false b h = inr h
@@ -35,6 +39,12 @@ or-right false b h = h
 pub bool : (b : Bool) → (b ≡ true) ⊎ (b ≡ false)
 bool true = inl refl
 bool false = inr refl
+
+-- two tests that pass together are one
+pub iff-eq : (a b : Bool) → (a ≡ true → b ≡ true) → (b ≡ true → a ≡ true) → a ≡ b
+iff-eq true b f g = sym (f refl)
+iff-eq false true f g = g refl
+iff-eq false false f g = refl
 
 pub clash {ℓ} : {A : Type ℓ} {b : Bool} → b ≡ true → b ≡ false → A
 clash p q = absurd (true≢false (sym p ∙ q))

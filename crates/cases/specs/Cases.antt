@@ -6,6 +6,16 @@ use mathlib.Core.List.{List, [], _∷_}
 use mathlib.Core.Path.{_≡_, refl}
 use lib.Dec.{eqb}
 use lib.ListN.{take, drop}
+use Rattle.files.specs.Walk.{walk}
+use Rattle.files.specs.Cut.{cutTurn, cutOf}
+use Rattle.files.specs.Setup.{allowed, taken, ended, turnOf, setupTurn, readSetup}
+use Rattle.files.specs.Schedule.{inSchedule, scheduleTurn, readSchedule, stepBy, stepsFrom, stepsOf}
+use Rattle.files.specs.Rows.{withKeys, withGroup, withTxn}
+use Rattle.files.specs.File.{fileOf}
+use Rattle.files.specs.declared.File.{File}
+use Rattle.files.specs.declared.Outcome.the-variants.{Fine, Refused}
+use Rattle.queues.specs.Queue.{headIn, blockedIn, nextIn, submittedIn}
+use Rattle.lines.specs.Lines.{stepLines, verdictIn, itemLines, stateLines}
 use Rattle.bounded.specs.Bounded.{anyBelow, allBelow, sumBelow, firstBelow, firstOf, listFrom}
 use Rattle.keys.specs.Keys.{member, within, adding}
 use Rattle.tables.specs.Empty.{noTables}
@@ -14,7 +24,6 @@ use Rattle.tables.specs.Sites.{siteCount, keysFrom}
 use Rattle.tables.specs.Concern.{someIn, allIn, touches, inside, local}
 use Rattle.tables.specs.Judge.{keysRefusal, sizeRefusal, countRefusal, keyRefusal, txnRefusal, someGroup, endRefusal, judge}
 use Rattle.machine.specs.Parts.{closedAt}
-use Rattle.rules.specs.Queue.{headIn, blockedIn, nextIn, submittedIn}
 use Rattle.rules.specs.Votes.{certifyIn, coversKey, coveredIn, allYesIn, verdictBy, roomIn}
 use Rattle.rules.specs.Fit.{countsFit, rowFits, txnFits, txnsFit, placesFit}
 use Rattle.machine.specs.Usable.{usable}
@@ -27,21 +36,12 @@ use Rattle.machine.specs.Steps.{done, decided, stepOf}
 use Rattle.machine.specs.Fresh as Fresh
 use Rattle.machine.specs.declared.State.{State}
 use Rattle.machine.specs.Fresh.{freshOf}
-use Rattle.records.specs.Number.{number}
+use Rattle.records.specs.Number.{number, row}
 use Rattle.records.specs.Record.{recordAt}
 use Rattle.records.specs.Rule.{ruleOf, valuesFit, pairsFit, fits}
-use Rattle.records.specs.Walk.{walk}
-use Rattle.records.specs.Cut.{cutTurn, cutOf}
-use Rattle.records.specs.Judge.{allowed, inSchedule, judgeAt}
-use Rattle.records.specs.Rows.{row, withKeys, withGroup, withTxn}
-use Rattle.records.specs.Setup.{taken, ended, turnOf, setupTurn, readSetup}
-use Rattle.records.specs.Schedule.{scheduleTurn, readSchedule, stepBy, stepsFrom, stepsOf}
-use Rattle.records.specs.File.{fileOf}
-use Rattle.records.specs.declared.File.{File}
-use Rattle.records.specs.declared.Outcome.the-variants.{Fine, Refused}
+use Rattle.records.specs.Judge.{judgeAt}
 use Rattle.text.specs.Text.{digitsBy, digitsOf, fieldsOf, lineOf, each}
 use Rattle.listing.specs.Run.{endOf, answersOf}
-use Rattle.listing.specs.Lines.{stepLines, verdictIn, itemLines, stateLines}
 use Rattle.listing.specs.Listing.{linesOf, listingOf, printed}
 use Rattle.cases.specs.Written.{text, hex, hexFrom}
 

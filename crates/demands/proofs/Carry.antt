@@ -2,26 +2,25 @@
 -- Assumes nothing.
 use Prim.Native.Nat.{ℕ, _<_}
 use mathlib.Core.Path.{_≡_, refl, sym, subst, fun-ext}
-use mathlib.Core.Bool.{true, false, _||_, not}
+use mathlib.Core.Bool.{true, false}
 use mathlib.Core.Logic.{inl, inr}
 use native.Mathlib.Omega.{arith}
-use lib.Dec.{eqb, leb}
-use borrow.Author.Tests.{eqb-false, ne-eqb, leb-false, lt-leb, not-false}
-use Rattle.bounded.proofs.Truth.{or-false, same, passed}
+use borrow.Author.Tests.{ne-eqb, lt-leb}
+use Rattle.queues.specs.Queue.{submittedIn}
+use Rattle.bounded.proofs.Truth.{same}
 use Rattle.keys.specs.Keys.{member, adding}
 use Rattle.keys.proofs.Laws.{adding-same, adding-other}
 use Rattle.tables.specs.Sites.{siteCount}
 use Rattle.tables.specs.Concern.{concerns, local}
 use Rattle.tables.specs.declared.Tables.{Tables}
-use Rattle.rules.specs.Queue.{submittedIn}
 use Rattle.refusals.specs.Refusals.{carryRefusalIn, voteRefusalIn}
 use Rattle.machine.specs.Parts.{castBy, carriedTo, withCarried}
-use Rattle.machine.specs.Rules.{holdsVoteOf}
-use Rattle.machine.specs.Refusals.{voteRefusal, carryRefusal}
+use Rattle.machine.specs.Refusals.{carryRefusal}
 use Rattle.machine.specs.Effects.{carryDone}
 use Rattle.machine.specs.declared.State.{State}
 use Rattle.onecopy.specs.View.{View}
 use Rattle.onecopy.proofs.Base.{at2, look2, at3, at3-same, at3-other}
+use Rattle.search.proofs.Frames.{Carries, carry-has}
 use Rattle.onecopy.proofs.Deliver.{carryV}
 use Rattle.onecopy.proofs.Rules as Rules
 use Rattle.onecopy.proofs.Ordering.{counter}
@@ -31,41 +30,7 @@ use Rattle.demands.proofs.Cells.{cell, cell-in, cell-put}
 use Rattle.demands.proofs.View.{known, inv-of, placed-of, viewOf, planOf, worldOf, Sound}
 use Rattle.demands.proofs.Sized.{Arrays}
 
-pub record Carries (st : State) (t from to : ℕ) : Type 0 where
-  pub txn : t < st .tables .txns
-  pub giver : from < siteCount (st .tables)
-  pub taker : to < siteCount (st .tables)
-  pub concerned : concerns (st .tables) t to ≡ true
-  pub global : local (st .tables) t ≡ false
-  pub differ : from ≡ to → ⊥
-  pub cast : 0 < castBy st t from
-  pub lacks : holdsVoteOf st t to from ≡ false
-
-pub carries : (st : State) (t from to : ℕ) → carryRefusal st t from to ≡ 0 → Carries st t from to
-unfolding carryRefusalIn voteRefusalIn
-carries st t from to h =
-    let T = st .tables in
-    let n = siteCount T in
-    let (a, h1) = passed 20 (omega arith) (leb (T .txns) t) _ h in
-    let (b, h2) = passed 21 (omega arith) (leb n from || leb n to) _ h1 in
-    let (f, g) = or-false (leb n from) (leb n to) b in
-    let (c, h3) = passed 23 (omega arith) (not (concerns T t to)) _ h2 in
-    let (e, h4) = passed 28 (omega arith) (local T t || (eqb from to || eqb (castBy st t from) 0)) _ h3 in
-    let z = passed 24 (omega arith) (holdsVoteOf st t to from) 0 h4 .0 in
-    let (lo, e1) = or-false (local T t) _ e in
-    let (d, x) = or-false (eqb from to) (eqb (castBy st t from) 0) e1 in
-    record {
-      txn = leb-false _ _ a;
-      giver = leb-false _ _ f;
-      taker = leb-false _ _ g;
-      concerned = not-false _ c;
-      global = lo;
-      differ = eqb-false _ _ d;
-      cast = (let q = eqb-false (castBy st t from) 0 x in omega arith);
-      lacks = z;
-    }
-
-module _ (st : State) (g : Taken (st .tables)) (z : Arrays st) (t from to : ℕ) (h : Carries st t from to) where
+module _ (st : State) (g : Taken (st .tables)) (z : Arrays st) (t from to : ℕ) (h : Carries (st .tables) (st .cast) (st .carried) t from to) where
   abbrev T : Tables
   T = st .tables
 
@@ -74,10 +39,6 @@ module _ (st : State) (g : Taken (st .tables)) (z : Arrays st) (t from to : ℕ)
 
   pub near : to < 16
   near = omega (arith, g .sites, h .taker)
-
-  -- from's vote is not among those carried to it
-  pub absent : member (carriedTo st t to) from ≡ false
-  absent = rw (ne-eqb from to (h .differ)) at (h .lacks)
 
   pub view-carry : viewOf T (withCarried st t from to) ≡ carryV v t from to
   unfolding carryV
@@ -101,8 +62,8 @@ module _ (st : State) (g : Taken (st .tables)) (z : Arrays st) (t from to : ℕ)
       held : (b f a : ℕ) → viewOf T (withCarried st t from to) .held b f a ≡ at3 (v .held) t from to true b f a
       held b f a = elim (look2 (λ a b. cell 16 0 (st .carried) b a) to t m a b) [
         | inl q ↦ rw (carried a b, q .2, q .0, q .1) (elim (same f from) [
-          | inl e ↦ rw (e, at3-same (v .held) t from to true, ne-eqb from to (h .differ)) (adding-same (carriedTo st t to) from absent)
-          | inr e ↦ rw (at3-other (v .held) t from to true t f to (λ x. e (x .1)), adding-other (carriedTo st t to) from f e absent, cell-in 16 0 (st .carried) t to near)
+          | inl e ↦ rw (e, at3-same (v .held) t from to true, ne-eqb from to (h .differ)) (adding-same (carriedTo st t to) from (h .lacks))
+          | inr e ↦ rw (at3-other (v .held) t from to true t f to (λ x. e (x .1)), adding-other (carriedTo st t to) from f e (h .lacks), cell-in 16 0 (st .carried) t to near)
         ])
         | inr q ↦ rw (at3-other (v .held) t from to true b f a (λ x. q .0 (x .2, x .0)), carried a b, q .1)
       ]
@@ -113,11 +74,11 @@ unfolding worldOf carryDone counter
 carry-step st t from to g z e =
     let T = st .tables in
     let v = viewOf T st in
-    let h = carries st t from to e in
+    let h = carry-has (st .tables) (st .cast) (st .carried) t from to e in
     subst (λ (x : View). Ends (planOf T) (worldOf T st) (record { view = x; ord = submittedIn (st .places) (T .txns) })) (sym (view-carry st g z t from to h))
     (move (carryV (viewOf T st) t from to) (Rules.carry t from to refl (h .global) (h .differ)
-    (rw (cell-in 16 0 (st .cast) t from (omega (arith, g .sites, h .giver))) (h .cast)) (h .concerned)
-    (rw (cell-in 16 0 (st .cast) t to (near st g z t from to h), cell-in 16 0 (st .carried) t to (near st g z t from to h)) (h .lacks))))
+    (rw (cell-in 16 0 (st .cast) t from (omega (arith, g .sites, h .giver))) (let v = h .voted in omega arith)) (h .concerned)
+    (rw (cell-in 16 0 (st .cast) t to (near st g z t from to h), cell-in 16 0 (st .carried) t to (near st g z t from to h), ne-eqb from to (h .differ)) (h .lacks))))
 
 -- and the other way round
 pub carry-back : (st : State) (t from to : ℕ) → Taken (st .tables) → Sound st

@@ -7,11 +7,12 @@ use mathlib.Core.Logic.{_⊎_, inl, inr}
 use mathlib.Core.List.{List}
 use native.Mathlib.Omega.{arith}
 use native.Mathlib.Numerals.{add-one}
-use lib.Dec.{eqb, ltb, leb}
+use lib.Dec.{eqb, ltb}
 use lib.ListN.{length, getD, set}
 use lib.Seq.{getD-set-same, getD-set-other}
-use borrow.Author.Tests.{eqb-true, eqb-false, eq-eqb, ne-eqb, ltb-false, lt-ltb, leb-false, lt-leb, not-false}
-use Rattle.bounded.proofs.Truth.{and-true, bool, clash, same, passed}
+use borrow.Author.Tests.{eqb-true, eq-eqb, ne-eqb, lt-ltb, lt-leb}
+use Rattle.queues.specs.Queue.{submittedIn}
+use Rattle.bounded.proofs.Truth.{and-true, bool, clash, same}
 use Rattle.bounded.proofs.Laws.{all-put}
 use Rattle.tables.specs.Lists.{inRow, writeCount, writeKey, writeValue}
 use Rattle.tables.specs.Sites.{siteCount, holds}
@@ -19,15 +20,18 @@ use Rattle.tables.specs.Concern.{concerns}
 use Rattle.tables.specs.declared.Tables.{Tables}
 use Rattle.steps.specs.Kinds.{version}
 use Rattle.steps.specs.declared.Version.{Version}
-use Rattle.rules.specs.Queue.{submittedIn}
 use Rattle.rules.specs.Votes.{roomIn}
 use Rattle.refusals.specs.Refusals.{closeRefusalIn, verdictRefusalIn}
-use Rattle.machine.specs.Parts.{versionAt, valueAt, deliveredAt, closedAt, withClosed}
+use Rattle.machine.specs.Parts.{versionAt, valueAt, withClosed}
 use Rattle.machine.specs.Rules.{atHead, verdict, roomAt}
 use Rattle.machine.specs.Usable.{usable}
-use Rattle.machine.specs.Refusals.{verdictRefusal, closeRefusal}
+use Rattle.machine.specs.Refusals.{closeRefusal}
 use Rattle.machine.specs.Effects.{stored, committed, closeDone}
 use Rattle.machine.specs.declared.State.{State}
+use Rattle.search.proofs.Frames.{close-has}
+use Rattle.machine.specs.Settle.{partsOf}
+use Rattle.machine.proofs.Stores.{stored-other}
+use Rattle.machine.proofs.Laws.{row-apart}
 use Rattle.onecopy.specs.Copy.{bump}
 use Rattle.onecopy.specs.View.{View}
 use Rattle.onecopy.proofs.Base.{at2}
@@ -37,7 +41,7 @@ use Rattle.onecopy.proofs.Rules.{Closable}
 use Rattle.onecopy.proofs.Ordering.{counter}
 use Rattle.onecopy.proofs.World.{World, Ends, move}
 use Rattle.demands.specs.View.{slot, tableOf}
-use Rattle.demands.proofs.Tables.{Taken, slot-is, apart}
+use Rattle.demands.proofs.Tables.{Taken, slot-is}
 use Rattle.demands.proofs.Cells as Cells
 use Rattle.demands.proofs.Cells.{cell-in, cell-put}
 use Rattle.demands.proofs.View.{listed-put, known, inv-of, placed-of, rulesOf, viewOf, planOf, worldOf, Sound}
@@ -48,17 +52,6 @@ use Rattle.demands.proofs.Sized.{Arrays, stored-length}
 -- ---- the stores of a commit
 
 module _ {A : Type 0} (T : Tables) (t s : ℕ) (d : A) (f : ℕ → A → A) (l : List A) where
-  -- a cell that no written key held by s has is as it was
-  pub stored-other : (n j : ℕ) → ((i : ℕ) → i < n → holds T s (writeKey T t i) ≡ true → j ≡ s * 64 + writeKey T t i → ⊥) → getD (stored T t s d f l n) j d ≡ getD l j d
-  unfolding stored
-  stored-other zero j h = refl
-  stored-other (suc n) j h = by (holds T s (writeKey T t n)) refl (stored-other n j (λ i b. h i (omega arith)))
-    where
-      by : (b : Bool) → holds T s (writeKey T t n) ≡ b → getD (stored T t s d f l n) j d ≡ getD l j d
-          → getD (cond b (set (stored T t s d f l n) (s * 64 + writeKey T t n) (f n (getD l (s * 64 + writeKey T t n) d))) (stored T t s d f l n)) j d ≡ getD l j d
-      by true k e = getD-set-other (stored T t s d f l n) (s * 64 + writeKey T t n) j (f n (getD l (s * 64 + writeKey T t n) d)) d (h n (omega arith) k) ∙ e
-      by false k e = e
-
   -- the cell of the i-th written key, where s holds it
   pub stored-at : (n i : ℕ) → i < n → ((j : ℕ) → j < n → writeKey T t i ≡ writeKey T t j → i ≡ j) → holds T s (writeKey T t i) ≡ true → s * 64 + writeKey T t i < length l
       → getD (stored T t s d f l n) (s * 64 + writeKey T t i) d ≡ f i (getD l (s * 64 + writeKey T t i) d)
@@ -80,35 +73,7 @@ module _ {A : Type 0} (T : Tables) (t s : ℕ) (d : A) (f : ℕ → A → A) (l 
       by (inl e) r = rw (← e, h) (getD-set-same (stored T t s d f l i) (s * 64 + writeKey T t i) (f i (getD l (s * 64 + writeKey T t i) d)) d (omega (arith, stored-length T t s d f l i)))
       by (inr e) r = last (holds T s (writeKey T t n)) e (r (omega arith) (λ j q. u j (omega arith)) h k)
 
--- ---- CLOSE accepted
-
-pub record Closes (st : State) (t s : ℕ) : Type 0 where
-  pub txn : t < st .tables .txns
-  pub site : s < siteCount (st .tables)
-  pub unclosed : closedAt st t s ≡ 0
-  pub here : deliveredAt st t s ≡ true
-  pub known : verdict st t s ≡ 0 → ⊥
-  pub head : verdict st t s ≡ 1 → atHead st t s ≡ true
-
-closing : (st : State) (t s : ℕ) → closeRefusal st t s ≡ 0 → Closes st t s
-unfolding closeRefusalIn verdictRefusalIn
-closing st t s h =
-    let c = verdict st t s in
-    let (a, h1) = passed 20 (omega arith) (leb (st .tables .txns) t) _ h in
-    let (b, h2) = passed 21 (omega arith) (leb (siteCount (st .tables)) s) _ h1 in
-    let h3 = passed 23 (omega arith) (not (concerns (st .tables) t s)) _ h2 .1 in
-    let (o, h4) = passed 24 (omega arith) (ltb 0 (closedAt st t s)) _ h3 in
-    let (d, h5) = passed 29 (omega arith) (not (deliveredAt st t s)) _ h4 in
-    let (k, h6) = passed 30 (omega arith) (eqb c 0) _ h5 in
-    let e = passed 31 (omega arith) (eqb c 1 && not (atHead st t s)) _ h6 .0 in
-    record {
-      txn = leb-false _ _ a;
-      site = leb-false _ _ b;
-      unclosed = omega (arith, ltb-false 0 (closedAt st t s) o);
-      here = not-false _ d;
-      known = eqb-false _ _ k;
-      head = λ q. not-false _ (rw (eq-eqb c 1 q) at e);
-    }
+-- ---- the view after a CLOSE
 
 module _ (st : State) (g : Taken (st .tables)) (z : Arrays st) (t s c : ℕ) (txn : t < st .tables .txns) (site : s < siteCount (st .tables)) where
   abbrev T : Tables
@@ -143,7 +108,7 @@ module _ (st : State) (g : Taken (st .tables)) (z : Arrays st) (t s c : ℕ) (tx
   raised k h w =
       let (l, e) = slot-is (T .writes) t n k (g .writes t txn .few) (and-true (ltb t (T .txns)) (inRow (T .writes) t n k) w .1) in
       let i = slot (T .writes) t n k in
-      let u : (j : ℕ) → j < n → writeKey T t i ≡ writeKey T t j → i ≡ j = λ j m q. apart (T .writes) t n i j (g .writes t txn .once) l m q in
+      let u : (j : ℕ) → j < n → writeKey T t i ≡ writeKey T t j → i ≡ j = λ j m q. row-apart (T .writes) t n i j (g .writes t txn .once) l m q in
       let b : s * 64 + writeKey T t i < 1024 = omega (arith, near, g .writes t txn .low i l, g .keys) in
       let x = stored-at T t s (version 0) (λ i v. version (v .0 + 1)) (st .versions) n i l u (rw e h) (omega (arith, z .versions)) in
       let y = stored-at T t s 0 (λ i x. writeValue T t i) (st .values) n i l u (rw e h) (omega (arith, z .values)) in
@@ -215,10 +180,10 @@ unfolding worldOf closeDone counter
 close-step st t s g z w e =
     let T = st .tables in
     let c = verdict st t s in
-    let h = closing st t s e in
+    let h = close-has (st .tables) (partsOf st) t s e in
     let near : s < 16 = omega (arith, g .sites, h .site) in
     let d = Rules.close s t c refl (record {
-      here = cell-in 16 false (st .delivered) t s near ∙ h .here;
+      here = cell-in 16 false (st .delivered) t s near ∙ h .delivered;
       opened = cell-in 16 0 (st .closed) t s near ∙ h .unclosed;
       known = verdict-known st g w t s (h .txn) near (h .known);
       head = λ q. head-get st g w t s (h .txn) near (h .head q);

@@ -8,15 +8,15 @@ use native.Mathlib.Omega.{arith}
 use lib.Dec.{eqb, ltb, leb}
 use lib.ListN.{getD}
 use borrow.Author.Tests.{eqb-true, eqb-false, eq-eqb, ne-eqb, ltb-true, lt-ltb, leb-false, lt-leb, not-true}
+use Rattle.queues.specs.Queue.{waits, nextIn, blockedIn, submittedIn}
+use Rattle.layout.specs.Cells.{placeIn, nobody}
 use Rattle.bounded.proofs.Truth.{and-true, and-put, or-true, or-left, or-right, bool, clash, same, passed}
-use Rattle.bounded.proofs.Laws.{any-get, any-put, first-is}
+use Rattle.bounded.proofs.Laws.{any-get, any-put, first-is, any-lack, all-same}
 use Rattle.tables.specs.Lists.{inRow, meets, readCount, readKey, writeCount, conflictIn, conflict}
 use Rattle.tables.specs.Sites.{siteCount, holds}
 use Rattle.tables.specs.Concern.{concerns, votes}
 use Rattle.tables.specs.declared.Tables.{Tables}
 use Rattle.steps.specs.Kinds.{version}
-use Rattle.rules.specs.Cells.{placeIn, nobody}
-use Rattle.rules.specs.Queue.{waits, nextIn, blockedIn, submittedIn}
 use Rattle.rules.specs.Votes.{certifyIn, current}
 use Rattle.refusals.specs.Refusals.{deliverRefusalIn}
 use Rattle.machine.specs.Parts.{placeOf, deliveredAt, closedAt, withDelivery}
@@ -32,7 +32,6 @@ use Rattle.onecopy.proofs.Rules.{Conflict, Queued, Offered, voteR}
 use Rattle.onecopy.proofs.Ordering.{counter}
 use Rattle.onecopy.proofs.World.{Ends, move}
 use Rattle.demands.specs.View.{tableOf}
-use Rattle.demands.proofs.Below.{any-lack, all-same}
 use Rattle.demands.proofs.Tables.{Taken, slot-at}
 use Rattle.demands.proofs.Cells.{cell-in, cell-put}
 use Rattle.demands.proofs.View.{listed-get, listed-put, known, inv-of, placed-of, matching, voteBy, certifyBy, rulesOf, place, viewOf, planOf, worldOf, Sound}

@@ -12,6 +12,7 @@ use lib.Dec.{eqb}
 use lib.ListN.{getD}
 use lib.Seq.{ext-getD}
 use borrow.Author.Tests.{eqb-true, eqb-false, lt-ltb}
+use Rattle.queues.specs.Queue.{submittedIn}
 use Rattle.bounded.specs.Bounded.{sumBelow}
 use Rattle.bounded.proofs.Truth.{bool, same}
 use Rattle.keys.specs.Keys.{member}
@@ -24,7 +25,6 @@ use Rattle.steps.specs.declared.Step.{Step}
 use Rattle.steps.specs.declared.Step.the-variants as step
 use Rattle.steps.specs.declared.Answer.{Answer}
 use Rattle.steps.specs.declared.Answer.the-variants as answer
-use Rattle.rules.specs.Queue.{submittedIn}
 use Rattle.machine.specs.Parts.{placeOf, versionAt, valueAt}
 use Rattle.machine.specs.Rules.{verdict}
 use Rattle.machine.specs.Usable.{usable}

@@ -12,6 +12,7 @@ use lib.Dec.{eqb, ltb}
 use lib.ListN.{length, set, length-set}
 use lib.Seq.{getD-set-same, getD-set-other}
 use borrow.Author.Tests.{eqb-true, eqb-false, ltb-true, ltb-false}
+use Rattle.queues.specs.Queue.{submittedIn}
 use Rattle.bounded.specs.Bounded.{sumBelow}
 use Rattle.bounded.proofs.Truth.{bool}
 use Rattle.keys.specs.Keys.{member, adding}
@@ -24,7 +25,6 @@ use Rattle.steps.specs.declared.Version.{Version}
 use Rattle.steps.specs.declared.Step.{Step}
 use Rattle.steps.specs.declared.Step.the-variants.{Read, Submit, Deliver, Carry, Close, Settle}
 use Rattle.steps.specs.declared.Answer.the-variants as answer
-use Rattle.rules.specs.Queue.{submittedIn}
 use Rattle.machine.specs.Parts.{placeOf, versionAt, valueAt, carriedTo, withClosed}
 use Rattle.machine.specs.Rules.{nextAt, voteOf, verdict, submitted}
 use Rattle.machine.specs.Usable.{usable}
@@ -33,12 +33,12 @@ use Rattle.machine.specs.Effects.{readDone, submitDone, deliverDone, carryDone,
 use Rattle.machine.specs.Steps.{done}
 use Rattle.machine.specs.declared.State.{State}
 use Rattle.search.specs.declared.Todo.the-variants as todo
-use Rattle.machine.proofs.Laws.{Usable, usable-has}
+use Rattle.machine.proofs.Laws.{Usable, usable-has, row-apart}
 use Rattle.demands.specs.Protocol.{Holds, Writes, Only, MayDeliver, MayCommit, Aborts, Permits, Stores, DoesRead, Submitted, none, placed, other, DoesSubmit, DoesDeliver, DoesCarry, DoesClose, Does}
-use Rattle.demands.proofs.Tables.{apart}
 use Rattle.demands.proofs.Cells as Cells
 use Rattle.demands.proofs.Sized.{Arrays, stored-length, after-tables}
-use Rattle.demands.proofs.Close.{stored-other, stored-at}
+use Rattle.machine.proofs.Stores.{stored-other}
+use Rattle.demands.proofs.Close.{stored-at}
 use Rattle.demands.proofs.Notions.{next-says, votes-is, commits-says, aborts-says}
 use Rattle.demands.proofs.Permits.{permitted}
 
@@ -135,7 +135,7 @@ module _ (st : State) (z : Arrays st) (u : Usable st) where
   unfolding committed
   stores-do t s c txn near = record {
     raised = λ i l h.
-        let once : (j : ℕ) → j < n → writeKey T t i ≡ writeKey T t j → i ≡ j = λ j m q. apart (T .writes) t n i j (u .writes t txn .once) l m q in
+        let once : (j : ℕ) → j < n → writeKey T t i ≡ writeKey T t j → i ≡ j = λ j m q. row-apart (T .writes) t n i j (u .writes t txn .once) l m q in
         let b : s * 64 + writeKey T t i < 1024 = omega (arith, u .writes t txn .low i l, u .keys) in (
           ap (λ (v : Version). v .0) (stored-at T t s (version 0) (λ i v. version (v .0 + 1)) (st .versions) n i l once h (omega (arith, z .versions))) ∙ add-one (versionAt st s (writeKey T t i)),
           stored-at T t s 0 (λ i x. writeValue T t i) (st .values) n i l once h (omega (arith, z .values)),

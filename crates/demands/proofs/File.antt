@@ -9,12 +9,12 @@ use lib.Dec.{leb}
 use lib.ListN.{length, take, drop}
 use types.Run.{OneOf, hit, miss}
 use borrow.Author.Tests.{leb-true, leb-false}
-use Rattle.records.specs.Cut.{cutOf}
-use Rattle.records.specs.declared.Outcome.{Outcome}
-use Rattle.records.specs.declared.Outcome.the-variants as outcome
+use Rattle.files.specs.Cut.{cutOf}
+use Rattle.files.specs.declared.Outcome.{Outcome}
+use Rattle.files.proofs.Agrees.{file-judged}
+use Rattle.files.proofs.Numbers.{file-numbers, file-refused}
+use Rattle.files.specs.declared.Outcome.the-variants as outcome
 use Rattle.records.proofs.Laws.{apart}
-use Rattle.records.proofs.Agrees.{file-judged}
-use Rattle.records.proofs.Numbers.{file-numbers, file-refused}
 use Rattle.listing.specs.Listing.{Listing, refused, listed, linesOf, listBy, listingOf}
 use Rattle.demands.specs.File.{readOf, scheduleIn, Listed, fileNumbers, cameOf, Demand1}
 use Rattle.demands.proofs.OneCopy.{every-state-one-copy}

@@ -8,18 +8,19 @@ use native.Mathlib.Omega.{arith}
 use native.Mathlib.Nat.{zero-add}
 use lib.Dec.{eqb, ltb}
 use lib.ListN.{getD, replicate, getD-replicate}
+use Rattle.queues.specs.Queue.{submittedIn}
 use Rattle.bounded.specs.Bounded.{listFrom}
 use Rattle.bounded.proofs.Truth.{bool}
-use Rattle.bounded.proofs.Laws.{list-at}
+use Rattle.bounded.proofs.Lists.{list-at}
 use Rattle.keys.specs.Keys.{member}
 use Rattle.keys.proofs.Laws.{high}
 use Rattle.tables.specs.Sites.{holds}
 use Rattle.tables.specs.declared.Tables.{Tables}
+use Rattle.tables.specs.First.{firstAt}
 use Rattle.steps.specs.Kinds.{version, place}
 use Rattle.steps.specs.declared.Place.{Place}
-use Rattle.rules.specs.Queue.{submittedIn}
 use Rattle.machine.specs.Parts.{placeOf}
-use Rattle.machine.specs.Fresh.{firstAt, startOf}
+use Rattle.machine.specs.Fresh.{startOf}
 use Rattle.onecopy.proofs.Base.{sum-zero}
 use Rattle.onecopy.proofs.Serial.{freshV}
 use Rattle.onecopy.proofs.Ordering.{counter}

@@ -25,7 +25,8 @@ use Rattle.onecopy.proofs.Base.{at2, look2}
 use Rattle.demands.proofs.Tables.{Taken}
 use Rattle.demands.proofs.Cells.{cell, cell-in, cell-put, cell-same}
 use Rattle.demands.proofs.Sized.{Arrays}
-use Rattle.demands.proofs.Carry.{Carries, carries, near, absent}
+use Rattle.search.proofs.Frames.{Carries, carry-has}
+use Rattle.demands.proofs.Carry.{near}
 
 -- the vote of f on t was carried to a
 abbrev pub carried : State → ℕ → ℕ → ℕ → Bool
@@ -73,8 +74,8 @@ after-handed st (Carry t from to) z g q h = record {
   differ = λ b f a c. elim (new b f a c) [ inl e ↦ λ d. k .differ (sym (e .1) ∙ d ∙ e .2) | inr e ↦ h .differ b f a e ];
 }
   where
-    k : Carries st t from to
-    k = carries st t from to q
+    k : Carries (st .tables) (st .cast) (st .carried) t from to
+    k = carry-has (st .tables) (st .cast) (st .carried) t from to q
 
     m : ℕ
     m = adding (carriedTo st t to) from
@@ -84,7 +85,7 @@ after-handed st (Carry t from to) z g q h = record {
     new b f a c = elim (look2 (λ a b. cell 16 0 (st .carried) b a) to t m a b) [
       | inl e ↦ elim (same f from) [
         | inl d ↦ inl (e .1, d, e .0)
-        | inr d ↦ inr (rw (e .0, e .1, cell-in 16 0 (st .carried) t to there) (sym (adding-other (carriedTo st t to) from f d (absent st g z t from to k)) ∙ subst (λ x. member x f ≡ true) (put a b ∙ e .2) c))
+        | inr d ↦ inr (rw (e .0, e .1, cell-in 16 0 (st .carried) t to there) (sym (adding-other (carriedTo st t to) from f d (k .lacks)) ∙ subst (λ x. member x f ≡ true) (put a b ∙ e .2) c))
       ]
       | inr e ↦ inr (subst (λ x. member x f ≡ true) (put a b ∙ e .1) c)
     ]

@@ -1,4 +1,3 @@
-pub mod Below
 pub mod Tables
 pub mod Cells
 pub mod View

@@ -9,6 +9,8 @@ use native.Mathlib.Omega.{arith}
 use lib.Dec.{eqb, ltb}
 use lib.ListN.{getD}
 use borrow.Author.Tests.{eqb-true, eqb-false, eq-eqb, ne-eqb, ltb-true, lt-ltb}
+use Rattle.queues.specs.Queue.{precedes, headIn, blockedIn, waits, nextIn}
+use Rattle.layout.specs.Cells.{placeIn, nobody}
 use Rattle.bounded.specs.Bounded.{anyBelow, allBelow}
 use Rattle.bounded.proofs.Truth.{bool}
 use Rattle.keys.specs.Keys.{member}
@@ -17,8 +19,6 @@ use Rattle.tables.specs.Sites.{siteCount, siteKeys, holds}
 use Rattle.tables.specs.Concern.{someIn, allIn, votes, touches, concerns, inside, holdsAll, local}
 use Rattle.tables.specs.declared.Tables.{Tables}
 use Rattle.steps.specs.Kinds.{version}
-use Rattle.rules.specs.Cells.{placeIn, nobody}
-use Rattle.rules.specs.Queue.{precedes, headIn, blockedIn, waits, nextIn}
 use Rattle.rules.specs.Votes.{current, certifyIn, coversKey, coveredIn, allYesIn, verdictBy, roomIn}
 use Rattle.machine.specs.Parts.{placeOf, versionAt, deliveredAt, closedAt, castBy, carriedTo}
 use Rattle.machine.specs.Rules.{queued, atHead, nextAt, blocked, voteOf, holdsVoteOf, verdict, roomAt}

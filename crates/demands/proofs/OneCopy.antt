@@ -6,6 +6,7 @@ use mathlib.Core.Bool.{Bool, true}
 use mathlib.Core.List.{List}
 use native.Mathlib.Omega.{arith}
 use lib.Dec.{eqb}
+use Rattle.bounded.proofs.Laws.{any-same}
 use Rattle.tables.specs.Lists.{readCount, readKey}
 use Rattle.tables.specs.Sites.{siteCount, holds}
 use Rattle.tables.specs.Judge.{judge}
@@ -24,7 +25,6 @@ use Rattle.onecopy.specs.Serial as Theory
 use Rattle.onecopy.proofs.World.{Reached, Holds, holds as held, demand3}
 use Rattle.demands.specs.View.{tableOf, orderOf, copyOf}
 use Rattle.demands.specs.OneCopy.{returned, replica, Matches, OneCopy}
-use Rattle.demands.proofs.Below.{any-same}
 use Rattle.demands.proofs.Tables.{Taken, taken, slot-at}
 use Rattle.demands.proofs.Cells.{cell-in}
 use Rattle.demands.proofs.View.{listed-get, listed-put, known, inv-of, placed-of, most-of, viewOf, planOf, worldOf}

@@ -7,13 +7,13 @@ use mathlib.Core.Logic.{_⊎_, inl, inr, _↔_, Iff·rfl, Iff·trans}
 use native.Mathlib.Omega.{arith}
 use lib.Dec.{eqb, ltb, leb}
 use borrow.Author.Tests.{eqb-false, ne-eqb, ltb-false, leb-false, lt-leb, not-false}
+use Rattle.layout.specs.Cells.{nobody}
 use Rattle.bounded.proofs.Truth.{or-false, passed}
 use Rattle.tables.specs.Lists.{readCount}
 use Rattle.tables.specs.Sites.{siteCount}
 use Rattle.tables.specs.declared.Tables.{Tables}
 use Rattle.steps.specs.declared.Step.{Step}
 use Rattle.steps.specs.declared.Step.the-variants.{Read, Submit, Deliver, Carry, Close, Settle}
-use Rattle.rules.specs.Cells.{nobody}
 use Rattle.refusals.specs.Refusals.{carryRefusalIn, closeRefusalIn, deliverRefusalIn, readRefusalIn, submitRefusalIn, verdictRefusalIn, voteRefusalIn}
 use Rattle.machine.specs.Parts.{placeOf, recordedOf, closedAt, castBy}
 use Rattle.machine.specs.Rules.{atHead, nextAt, verdict, roomAt}

@@ -1,7 +1,7 @@
 -- Demand 2: a step does what the protocol says exactly if the protocol permits it, and else is refused with the state as it was.
 -- Assumes nothing.
 use Prim.Native.Nat.{ℕ, _<_}
-use mathlib.Core.Path.{_≡_, refl, sym, subst, _∙_}
+use mathlib.Core.Path.{_≡_, sym, subst}
 use mathlib.Core.Bool.{true, false}
 use native.Mathlib.Omega.{arith}
 use borrow.Author.Tests.{ne-eqb}
@@ -15,7 +15,7 @@ use Rattle.machine.specs.Steps.{done, decided, stepOf}
 use Rattle.machine.specs.declared.State.{State}
 use Rattle.machine.specs.declared.Stepped.{Stepped}
 use Rattle.machine.proofs.Settle.{taken}
-use Rattle.demands.specs.Protocol.{Settling, Protocol, Demand2}
+use Rattle.demands.specs.Protocol.{Protocol, Demand2}
 use Rattle.demands.proofs.Sized.{Arrays}
 use Rattle.demands.proofs.Permits.{permitted}
 use Rattle.demands.proofs.Does.{differ, does}
@@ -35,13 +35,6 @@ module _ (st : State) where
   refused h x d = (refusal st x, omega arith, rw (h, ne-eqb (refusal st x) 0 d))
 
 module _ (st : State) (z : Arrays st) (h : usable st ≡ true) where
-  -- SETTLE answers how many steps it took, each the first permitted, until none was
-  pub settling : (n : ℕ) × (end : State) × (stepOf st Settle ≡ giving (answer.Settled n) end) × Settling st n end
-  unfolding done refusal
-  settling =
-      let (n, a, r) = settles st z h in
-      (n, done st Settle .next, accepted st h Settle refl ∙ (λ j. record { answer = a j; next = done st Settle .next }), r)
-
   -- what a permitted step does
   follows : (x : Step) → refusal st x ≡ 0 → Protocol st x (done st x .answer) (done st x .next)
   follows (Read t i s) e = does st z h (Read t i s) e (λ e. differ (cc))

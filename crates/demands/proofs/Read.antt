@@ -9,19 +9,19 @@ use native.Mathlib.Omega.{arith}
 use lib.Dec.{eqb, leb}
 use lib.ListN.{length, set}
 use borrow.Author.Tests.{eqb-true, eq-eqb, ne-eqb, leb-false, not-false}
-use Rattle.bounded.proofs.Truth.{and-true, bool, same, passed}
+use Rattle.queues.specs.Queue.{submittedIn}
+use Rattle.bounded.proofs.Truth.{and-true, bool, same, passed, iff-eq}
 use Rattle.tables.specs.Lists.{inRow, readCount, readKey}
 use Rattle.tables.specs.Sites.{siteCount, holds}
 use Rattle.tables.specs.declared.Tables.{Tables}
 use Rattle.steps.specs.Kinds.{version}
-use Rattle.rules.specs.Queue.{submittedIn}
 use Rattle.refusals.specs.Refusals.{readRefusalIn}
 use Rattle.machine.specs.Parts.{versionAt, valueAt, recordedOf}
 use Rattle.machine.specs.Refusals.{readRefusal}
 use Rattle.machine.specs.Effects.{readDone}
 use Rattle.machine.specs.declared.State.{State}
 use Rattle.onecopy.specs.View.{View}
-use Rattle.onecopy.proofs.Base.{iff-eq, at2}
+use Rattle.onecopy.proofs.Base.{at2}
 use Rattle.onecopy.proofs.Read.{row, readV, Reads}
 use Rattle.onecopy.proofs.Ordering.{counter}
 use Rattle.onecopy.proofs.World.{Steps, read}

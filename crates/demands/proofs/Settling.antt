@@ -8,11 +8,11 @@ use native.Mathlib.Omega.{arith}
 use native.Mathlib.Numerals.{sub-one}
 use lib.Dec.{eqb, ltb}
 use borrow.Author.Tests.{ltb-true}
+use Rattle.layout.specs.Cells.{placeIn, nobody}
 use Rattle.tables.specs.Sites.{siteCount}
 use Rattle.steps.specs.declared.Step.{Step}
 use Rattle.steps.specs.declared.Step.the-variants as step
 use Rattle.steps.specs.declared.Answer.the-variants as answer
-use Rattle.rules.specs.Cells.{placeIn, nobody}
 use Rattle.search.specs.Search.{closesFirstIn, firstCarriedIn, firstClosingIn, firstDeliveringIn, firstFromIn, firstToIn, todoIn}
 use Rattle.search.specs.Search.{nowhere}
 use Rattle.machine.specs.Usable.{usable}

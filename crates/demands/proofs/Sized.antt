@@ -6,18 +6,19 @@ use mathlib.Core.Bool.{Bool, true, false, cond}
 use mathlib.Core.List.{List, [], _∷_}
 use lib.Dec.{eqb}
 use lib.ListN.{length, getD, set, length-set, length-replicate}
-use Rattle.bounded.proofs.Laws.{list-length}
+use Rattle.bounded.proofs.Lists.{list-length}
 use Rattle.tables.specs.Lists.{writeKey}
 use Rattle.tables.specs.Sites.{holds}
 use Rattle.tables.specs.Judge.{judge}
 use Rattle.tables.specs.declared.Tables.{Tables}
+use Rattle.tables.specs.First.{firstAt}
 use Rattle.steps.specs.Kinds.{version, place}
 use Rattle.machine.specs.Parts.{withClosed}
 use Rattle.machine.specs.Rules.{verdict}
 use Rattle.machine.specs.Usable.{usable}
 use Rattle.machine.specs.Effects.{readDone, submitDone, deliverDone, carryDone, stored, committed, closeDone}
 use Rattle.machine.specs.Settle.{after}
-use Rattle.machine.specs.Fresh.{firstAt, startOf}
+use Rattle.machine.specs.Fresh.{startOf}
 use Rattle.machine.specs.declared.State.{State}
 use Rattle.search.specs.declared.Todo.{Todo}
 use Rattle.search.specs.declared.Todo.the-variants.{Close, Deliver, Carry, Nothing}

@@ -7,11 +7,11 @@ use mathlib.Core.List.{List}
 use lib.Dec.{eqb, leb, ltb}
 use types.Run.{OneOf, hit}
 use borrow.Author.Tests.{eqb-false}
+use Rattle.layout.specs.Cells.{nobody}
 use Rattle.bounded.specs.Bounded.{allBelow}
 use Rattle.tables.specs.Lists.{readCount, readKey}
 use Rattle.tables.specs.Sites.{siteCount, holds}
 use Rattle.tables.specs.Concern.{concerns, local}
-use Rattle.rules.specs.Cells.{nobody}
 use Rattle.steps.specs.Answers.{numbersOf}
 use Rattle.steps.specs.declared.Step.{Step}
 use Rattle.steps.specs.declared.Step.the-variants.{Read, Submit, Deliver, Carry, Close, Settle}
@@ -20,7 +20,7 @@ use Rattle.steps.specs.declared.Answer.the-variants as answer
 use Rattle.refusals.specs.Refusals.{carryRefusalIn, closeRefusalIn, deliverRefusalIn, readRefusalIn, submitRefusalIn, verdictRefusalIn, voteRefusalIn}
 use Rattle.machine.specs.Parts.{placeOf, recordedOf, deliveredAt, closedAt, castBy}
 use Rattle.machine.specs.Rules.{atHead, nextAt, blocked, holdsVoteOf, verdict, roomAt}
-use Rattle.machine.specs.Refusals.{readRefusal, submitRefusal, deliverRefusal, voteRefusal, carryRefusal, verdictRefusal, closeRefusal, refusal}
+use Rattle.machine.specs.Refusals.{refusal}
 use Rattle.machine.specs.Effects.{readDone, submitDone, deliverDone, carryDone, closeDone}
 use Rattle.machine.specs.Settle.{most, todo, after, settleFor, settleDone}
 use Rattle.machine.specs.Steps.{refused, done, decided, stepOf}

@@ -11,15 +11,15 @@ use lib.Dec.{eqb, ltb, leb}
 use lib.ListN.{length, set}
 use lib.Seq.{getD-set-same, getD-set-other}
 use borrow.Author.Tests.{eqb-true, eq-eqb, ne-eqb, ltb-false, lt-ltb, leb-false, not-false}
+use Rattle.queues.specs.Queue.{submittedIn}
+use Rattle.layout.specs.Cells.{placeIn, nobody}
 use Rattle.bounded.specs.Bounded.{allBelow, leastBelow}
-use Rattle.bounded.proofs.Truth.{and-true, clash, passed}
+use Rattle.bounded.proofs.Truth.{and-true, clash, passed, and-false}
 use Rattle.bounded.proofs.Laws.{all-get, first-is, sum-less}
 use Rattle.tables.specs.Lists.{readCount}
 use Rattle.tables.specs.declared.Tables.{Tables}
 use Rattle.steps.specs.Kinds.{place}
 use Rattle.steps.specs.declared.Place.{Place}
-use Rattle.rules.specs.Cells.{placeIn, nobody}
-use Rattle.rules.specs.Queue.{submittedIn}
 use Rattle.refusals.specs.Refusals.{submitRefusalIn}
 use Rattle.machine.specs.Parts.{placeOf, recordedOf}
 use Rattle.machine.specs.Rules.{submitted}
@@ -32,7 +32,6 @@ use Rattle.onecopy.proofs.Ordering.{counter, submit}
 use Rattle.onecopy.proofs.World as World
 use Rattle.onecopy.proofs.World.{World, Steps}
 use Rattle.demands.specs.View.{slot, tableOf, whoseIn}
-use Rattle.demands.proofs.Below.{and-false}
 use Rattle.demands.proofs.Tables.{Taken, slot-at}
 use Rattle.demands.proofs.Cells.{cell-in}
 use Rattle.demands.proofs.View.{listed-get, viewOf, planOf, worldOf, Sound}

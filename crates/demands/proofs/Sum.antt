@@ -10,7 +10,7 @@ use native.Mathlib.Nat.{mul-le-mul-right}
 use lib.Dec.{eqb, ltb}
 use borrow.Author.Tests.{eq-eqb, ne-eqb, ltb-false, lt-ltb}
 use Rattle.bounded.specs.Bounded.{sumBelow, countBelow}
-use Rattle.bounded.proofs.Truth.{bool, clash, same}
+use Rattle.bounded.proofs.Truth.{bool, clash, same, and-false}
 use Rattle.bounded.proofs.Laws.{sum-same, sum-most}
 use Rattle.keys.specs.Keys.{member}
 use Rattle.tables.specs.Sites.{siteCount}
@@ -37,7 +37,6 @@ use Rattle.onecopy.proofs.World.{count, Reached, Holds, holds}
 use Rattle.onecopy.proofs.Settle as Theory
 use Rattle.demands.specs.View.{tableOf}
 use Rattle.demands.specs.Settle.{stepsOn, doneOn, stepsInAll, stepsDone, Settles}
-use Rattle.demands.proofs.Below.{and-false}
 use Rattle.demands.proofs.Tables.{Taken, taken}
 use Rattle.demands.proofs.Cells.{cell-in}
 use Rattle.demands.proofs.View.{fit, known, reader, seat, kept, voterOf, inv-of, voter-of, viewOf, planOf, worldOf}

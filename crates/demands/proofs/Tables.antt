@@ -10,10 +10,10 @@ use native.Mathlib.Nat.{div-lt-iff-lt-mul, not-suc-le-zero}
 use lib.Dec.{eqb, leb, ltb}
 use lib.ListN.{getD}
 use lib.Pow.{pow-pos}
-use borrow.Author.Tests.{eqb-true, eqb-false, eq-eqb, ltb-true, ltb-false, lt-ltb, le-ltb, not-false}
+use borrow.Author.Tests.{eqb-true, eqb-false, ltb-true, ltb-false, lt-ltb, le-ltb, not-false}
 use Rattle.bounded.specs.Bounded.{anyBelow, sumBelow, leastBelow, firstOf}
-use Rattle.bounded.proofs.Truth.{or-false, bool, clash, same, passed}
-use Rattle.bounded.proofs.Laws.{any-get, any-put, any-none, all-get, else-none, of-none, first-is, sum-same}
+use Rattle.bounded.proofs.Truth.{or-false, clash, passed}
+use Rattle.bounded.proofs.Laws.{any-get, any-none, all-get, else-none, of-none, first-is, sum-same}
 use Rattle.keys.specs.Keys.{member, within}
 use Rattle.keys.proofs.Laws.{low, high}
 use Rattle.tables.specs.Lists.{rowAt, inRow, twice, readCount, writeCount}
@@ -21,7 +21,7 @@ use Rattle.tables.specs.Sites.{sitesIn, siteCount, keysFrom, holds}
 use Rattle.tables.specs.Judge.{keysRefusal, sizeRefusal, groupRefusal, txnRefusal, someGroup, endRefusal, judge}
 use Rattle.tables.specs.declared.Tables.{Tables}
 use Rattle.machine.specs.Fresh.{startOf}
-use Rattle.machine.proofs.Laws.{Row, Usable, usable-has}
+use Rattle.machine.proofs.Laws.{Row, Usable, usable-has, in-row, row-apart}
 use Rattle.machine.proofs.Kept.{fresh-usable}
 use Rattle.demands.specs.View.{slot}
 
@@ -41,25 +41,10 @@ slot-none row t n k l h = elim (first-is n (λ i. 0) (λ i. eqb (rowAt row t i) 
   | inr q ↦ q .0
 ]
 
-pub in-row : (row : List ℕ) (t n i : ℕ) → i < n → inRow row t n (rowAt row t i) ≡ true
-unfolding inRow
-in-row row t n i l = any-put n (λ j. eqb (rowAt row t j) (rowAt row t i)) i l (eq-eqb (rowAt row t i) (rowAt row t i) refl)
-
--- no key stands twice
-pub apart : (row : List ℕ) (t n i j : ℕ) → twice row t n ≡ false → i < n → j < n → rowAt row t i ≡ rowAt row t j → i ≡ j
-unfolding twice
-apart row t n i j h a b e = elim (same i j) [
-  | inl q ↦ q
-  | inr q ↦ elim (bool (ltb i j)) [
-    | inl l ↦ clash (subst (λ k. inRow row t j k ≡ true) e (in-row row t j i (ltb-true i j l))) (any-none n (λ i. inRow row t i (rowAt row t i)) h j b)
-    | inr l ↦ clash (subst (λ k. inRow row t i k ≡ true) (sym e) (in-row row t i j (let m = ltb-false i j l in omega arith))) (any-none n (λ i. inRow row t i (rowAt row t i)) h i a)
-  ]
-]
-
 pub slot-at : (row : List ℕ) (t n i : ℕ) → n ≤ 8 → twice row t n ≡ false → i < n → slot row t n (rowAt row t i) ≡ i
 slot-at row t n i l h a =
     let (b, e) = slot-is row t n (rowAt row t i) l (in-row row t n i a) in
-    apart row t n (slot row t n (rowAt row t i)) i h b a e
+    row-apart row t n (slot row t n (rowAt row t i)) i h b a e
 
 -- ---- sites and the keys they hold
 

@@ -7,13 +7,13 @@ use mathlib.Core.Logic.{_⊎_, inl, inr}
 use native.Mathlib.Omega.{arith}
 use lib.Dec.{eqb, ltb}
 use borrow.Author.Tests.{eqb-true, eqb-false, ltb-true, ltb-false, not-true, not-false}
+use Rattle.queues.specs.Queue.{precedes, headIn}
 use Rattle.bounded.specs.Bounded.{anyBelow}
 use Rattle.bounded.proofs.Truth.{and-true, and-put, or-true, or-false, bool}
-use Rattle.bounded.proofs.Laws.{any-get, any-put, any-none, all-get, all-put}
+use Rattle.bounded.proofs.Laws.{any-get, any-put, any-none, all-get, all-put, all-none, any-lack}
 use Rattle.tables.specs.Lists.{readCount, readKey}
 use Rattle.tables.specs.Sites.{siteCount, holds}
 use Rattle.tables.specs.declared.Tables.{Tables}
-use Rattle.rules.specs.Queue.{precedes, headIn}
 use Rattle.rules.specs.Votes.{coversKey, coveredIn, allYesIn, verdictBy}
 use Rattle.machine.specs.Parts.{placeOf, deliveredAt, closedAt, castBy, carriedTo}
 use Rattle.machine.specs.Rules.{queued, atHead, holdsVoteOf, verdict}
@@ -21,7 +21,6 @@ use Rattle.machine.specs.declared.State.{State}
 use Rattle.onecopy.specs.View.{View}
 use Rattle.onecopy.proofs.Rules.{Covered, AllYes, OneNo, base-verdicts}
 use Rattle.demands.specs.View.{tableOf}
-use Rattle.demands.proofs.Below.{all-none, any-lack}
 use Rattle.demands.proofs.Tables.{Taken, holds-site}
 use Rattle.demands.proofs.Cells.{cell-in}
 use Rattle.demands.proofs.View.{listed-get, listed-put, known, seat, inv-of, voter-of, placed-of, viewOf, Sound}

@@ -9,19 +9,20 @@ use native.Mathlib.Omega.{arith}
 use lib.Dec.{eqb, ltb}
 use lib.ListN.{getD}
 use borrow.Author.Tests.{eqb-true, eqb-false, ltb-true, lt-ltb, not-false}
+use Rattle.queues.specs.Queue.{submittedIn}
 use Rattle.bounded.specs.Bounded.{allBelow}
 use Rattle.bounded.proofs.Truth.{and-true, and-put, or-true, or-false, or-left, or-right}
-use Rattle.bounded.proofs.Laws.{any-get, any-put, all-get}
+use Rattle.bounded.proofs.Laws.{any-get, any-put, all-get, all-none}
 use Rattle.keys.specs.Keys.{member}
 use Rattle.tables.specs.Lists.{rowAt, inRow, readCount, readKey, writeCount, writeKey}
 use Rattle.tables.specs.Sites.{siteCount, siteKeys, holds}
 use Rattle.tables.specs.Concern.{someIn, allIn, votes, touches, concerns, inside, holdsAll, local}
 use Rattle.tables.specs.declared.Tables.{Tables}
 use Rattle.steps.specs.Kinds.{version}
-use Rattle.rules.specs.Queue.{submittedIn}
 use Rattle.rules.specs.Votes.{holdsVote}
 use Rattle.machine.specs.Parts.{placeOf, versionAt, valueAt}
 use Rattle.machine.specs.declared.State.{State}
+use Rattle.machine.proofs.Laws.{in-row}
 use Rattle.onecopy.specs.View.{View}
 use Rattle.onecopy.proofs.Inv.{Fit, Inv}
 use Rattle.onecopy.proofs.Live.{Kept}
@@ -29,8 +30,7 @@ use Rattle.onecopy.proofs.Rules.{Certify, Rules, base-admission, base-verdicts}
 use Rattle.onecopy.proofs.Ordering.{counter}
 use Rattle.onecopy.proofs.World.{Plan, World, Holds}
 use Rattle.demands.specs.View.{slot, tableOf, whoseIn}
-use Rattle.demands.proofs.Tables.{holds-site, in-row, Taken}
-use Rattle.demands.proofs.Below.{all-none}
+use Rattle.demands.proofs.Tables.{holds-site, Taken}
 use Rattle.demands.proofs.Cells.{cell}
 
 -- ---- the tables fit

@@ -3,6 +3,7 @@ use Prim.Native.Nat.{ℕ}
 use mathlib.Core.List.{List, [], _∷_, _++_}
 use mathlib.Core.Path.{_≡_, refl}
 use lib.ListN.{replicate}
+use Rattle.queues.specs.Queue.{headIn, blockedIn, nextIn, submittedIn}
 use Rattle.bounded.specs.Bounded.{anyBelow, allBelow, sumBelow, firstBelow, firstOf, listFrom}
 use Rattle.keys.specs.Keys.{member, within, adding}
 use Rattle.tables.specs.Empty.{noTables}
@@ -15,7 +16,6 @@ use Rattle.steps.specs.Kinds.{version, place}
 use Rattle.steps.specs.declared.Answer.the-variants as answer
 use Rattle.steps.specs.declared.Step.{Step}
 use Rattle.steps.specs.declared.Step.the-variants.{Read, Submit, Deliver, Settle}
-use Rattle.rules.specs.Queue.{headIn, blockedIn, nextIn, submittedIn}
 use Rattle.rules.specs.Votes.{certifyIn, coversKey, coveredIn, allYesIn, verdictBy, roomIn}
 use Rattle.rules.specs.Fit.{countsFit, rowFits, txnFits, txnsFit, placesFit}
 use Rattle.refusals.specs.Refusals.{carryRefusalIn, closeRefusalIn, deliverRefusalIn, readRefusalIn, submitRefusalIn, verdictRefusalIn, voteRefusalIn}

@@ -6,16 +6,16 @@ use mathlib.Core.List.{List, [], _∷_, _++_}
 use lib.IntN.{pos, negℤ}
 use lib.ListN.{length, take, drop}
 use types.Run.{OneOf}
+use Rattle.files.specs.Cut.{cutOf}
+use Rattle.files.specs.Schedule.{stepsOf}
+use Rattle.files.specs.File.{fileOf}
+use Rattle.files.specs.declared.File.{File}
+use Rattle.lines.specs.Lines.{stepLines, stateLines}
 use Rattle.tables.specs.Judge.{judge}
 use Rattle.steps.specs.declared.Step.{Step}
 use Rattle.machine.specs.Fresh.{freshOf}
 use Rattle.machine.specs.declared.State.{State}
-use Rattle.records.specs.Cut.{cutOf}
-use Rattle.records.specs.Schedule.{stepsOf}
-use Rattle.records.specs.File.{fileOf}
-use Rattle.records.specs.declared.File.{File}
 use Rattle.listing.specs.Run.{endOf, answersOf}
-use Rattle.listing.specs.Lines.{stepLines, stateLines}
 use Rattle.listing.specs.Listing.{Listing, refused, listed, listingOf, inRoom, answerOf, leftOf}
 use Rattle.demands.specs.OneCopy.{OneCopy}
 

@@ -4,12 +4,12 @@ use mathlib.Core.Bool.{Bool, _&&_}
 use mathlib.Core.List.{List}
 use lib.Dec.{eqb, ltb}
 use lib.ListN.{getD}
+use Rattle.layout.specs.Cells.{placeIn, nobody}
 use Rattle.bounded.specs.Bounded.{anyBelow, leastBelow}
 use Rattle.tables.specs.Lists.{rowAt, inRow, readCount, writeCount, writeValue}
 use Rattle.tables.specs.Sites.{siteCount, holds}
 use Rattle.tables.specs.Concern.{concerns}
 use Rattle.tables.specs.declared.Tables.{Tables}
-use Rattle.rules.specs.Cells.{placeIn, nobody}
 use Rattle.steps.specs.declared.Place.{Place}
 use Rattle.machine.specs.Parts.{placeOf, closedAt}
 use Rattle.machine.specs.declared.State.{State}

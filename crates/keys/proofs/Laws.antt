@@ -73,12 +73,6 @@ adding-other m k j d e = ap (λ x. eqb x 1) (other-bit k j m d (even m k e))
 
 -- ---- sets and the operations on bits
 
--- two tests are equal where each gives the other
-pub both-ways : (a b : Bool) → (a ≡ true → b ≡ true) → (b ≡ true → a ≡ true) → a ≡ b
-both-ways true b f g = sym (f refl)
-both-ways false true f g = g refl
-both-ways false false f g = refl
-
 -- what holds of the bits 0 and 1 holds of the lowest bit of any number
 bits : (P : ℕ → Type 0) → P 0 → P 1 → (x : ℕ) → x < 2 → P x
 bits P p q zero h = p

@@ -9,8 +9,8 @@ use native.Mathlib.Nat.{not-suc-le-zero}
 use lib.ListN.{length, getD, set, length-set}
 use lib.Seq.{ext-getD, getD-set-same, getD-set-other}
 use Rattle.bounded.specs.Bounded.{listFrom}
-use Rattle.bounded.proofs.Laws.{list-length, list-at}
 use Rattle.bounded.proofs.Truth.{same}
+use Rattle.bounded.proofs.Lists.{list-length, list-at}
 use Rattle.layout.specs.Layout.{portion}
 use Rattle.layout.proofs.Laws.{portion-is}
 

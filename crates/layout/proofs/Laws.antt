@@ -7,8 +7,8 @@ use mathlib.Core.List.{List}
 use native.Mathlib.Omega.{arith}
 use lib.ListN.{length, getD, set, length-set}
 use lib.Seq.{ext-getD, getD-set-same, getD-set-other}
-use Rattle.bounded.proofs.Laws.{list-length, list-at}
 use Rattle.bounded.proofs.Truth.{same}
+use Rattle.bounded.proofs.Lists.{list-length, list-at}
 use Rattle.layout.specs.Layout.{portion}
 
 -- its length

@@ -1,52 +1,37 @@
--- Laws.
+-- A run of a schedule: where it stands after each step, and how it ends.
 -- Assumes nothing.
 use Prim.Native.Nat.{ℕ, zero, suc, _+_, _-_, _*_, _≤_}
 use mathlib.Core.Bool.{Bool, true, false}
 use mathlib.Core.List.{List, [], _∷_, _++_, append-nil, append-assoc}
-use mathlib.Core.Logic.{_⊎_, inl, inr}
+use mathlib.Core.Logic.{inl, inr}
 use mathlib.Core.Path.{_≡_, refl, _∙_}
 use native.Mathlib.Numerals.{add-one}
 use native.Mathlib.Omega.{arith}
 use lib.ListN.{length}
 use types.Run.{OneOf}
 use denote.Enum.Declared.{tagOf}
+use Rattle.files.specs.Schedule.{stepBy, stepsFrom, stepsOf}
+use Rattle.lines.specs.Lines.{stepLine, stepLines}
 use Rattle.bounded.proofs.Truth.{clash}
-use Rattle.text.specs.Text.{digitsOf}
 use Rattle.text.specs.Wrote.{Wrote}
-use Rattle.text.proofs.Laws.{digits-length, nothing, then}
+use Rattle.text.proofs.Laws.{nothing, then}
 use Rattle.steps.specs.Answers.{numbersOf}
 use Rattle.steps.specs.declared.Answer.{Answer}
-use Rattle.steps.specs.declared.Answer.the-variants.{Read, Submitted, Delivered, Carried, Closed, Settled, Refused}
 use Rattle.steps.specs.declared.Step.{Step}
 use Rattle.records.specs.Record.{recordAt}
-use Rattle.records.specs.Schedule.{stepBy, stepsFrom, stepsOf}
 use Rattle.records.specs.declared.Record.{Record}
 use Rattle.records.specs.declared.Record.the-variants.{Whole, Short, Cut}
 use Rattle.records.proofs.Laws.{Lies, whole-lies}
 use Rattle.records.proofs.Record as R
-use Rattle.layout.specs.Layout.{theVersions, theValues, theReadVersions, theReadValues, thePlaces, theRecorded, theDelivered, theClosed, theCast}
 use Rattle.search.specs.declared.Todo.the-variants.{Nothing}
 use Rattle.machine.specs.Usable.{usable}
 use Rattle.machine.specs.Settle.{todo}
-use Rattle.machine.specs.Lent.{stateOf, Takes, idleAfter}
+use Rattle.machine.specs.Steps.{decided}
+use Rattle.machine.specs.Lent.{Takes, idleAfter}
 use Rattle.machine.specs.declared.State.{State}
-use Rattle.machine.proofs.Kept.{step-usable}
+use Rattle.machine.proofs.Kept.{step-usable, step-places, decides}
 use Rattle.machine.proofs.Idle.{idle-keeps}
 use Rattle.listing.specs.Run.{endOf, answersOf}
-use Rattle.listing.specs.Lines.{stepLine, stepLines}
-use Rattle.listing.proofs.Kept.{step-places, decides}
-
--- ---- the line of a step
-
--- an answer has the number 0 or two zeros, one digit each
-pub one-digit : (a : Answer) → (length (digitsOf (numbersOf a .code)) ≤ 1) ⊎ ((length (digitsOf (numbersOf a .first)) ≤ 1) × (length (digitsOf (numbersOf a .second)) ≤ 1))
-one-digit (Read version value) = inl (digits-length 0 0 (omega arith))
-one-digit (Submitted place) = inl (digits-length 0 0 (omega arith))
-one-digit (Delivered t vote) = inl (digits-length 0 0 (omega arith))
-one-digit (Carried vote) = inl (digits-length 0 0 (omega arith))
-one-digit (Closed verdict) = inl (digits-length 0 0 (omega arith))
-one-digit (Settled count) = inl (digits-length 0 0 (omega arith))
-one-digit (Refused n) = inr (digits-length 0 0 (omega arith), digits-length 0 0 (omega arith))
 
 -- ---- the steps of a schedule, record by record
 
@@ -62,28 +47,13 @@ steps-end (suc k) s at (Whole tag start len next) e h = absurd (elim h [ inl q �
 steps-end (suc k) s at (Short tag) e h = rw (← e, stepsFrom)
 steps-end (suc k) s at Cut e h = rw (← e, stepsFrom)
 
--- ---- the lent arrays
-
--- the state laid out in them is the state that they hold
-pub held : (st : State) (numbers : List ℕ) (flags : List Bool) (marks : List ℕ)
-    → ((theVersions numbers ≡ st .versions) × (theValues numbers ≡ st .values)) × (((theReadVersions numbers ≡ st .readversions) × (theReadValues numbers ≡ st .readvalues)) × (thePlaces numbers ≡ st .places))
-    → (theRecorded flags ≡ st .recorded) × (theDelivered flags ≡ st .delivered) → (theClosed marks ≡ st .closed) × (theCast marks ≡ st .cast)
-    → stateOf (st .tables) numbers flags marks (st .carried) ≡ st
-held st numbers flags marks n f m = λ j. record {
-  tables = st .tables;
-  versions = n .0 .0 j;
-  values = n .0 .1 j;
-  recorded = f .0 j;
-  readversions = n .1 .0 .0 j;
-  readvalues = n .1 .0 .1 j;
-  places = n .1 .1 j;
-  delivered = f .1 j;
-  closed = m .0 j;
-  cast = m .1 j;
-  carried = st .carried;
-}
-
 -- ---- a run
+
+-- it leaves a usable state usable
+pub end-usable : (st : State) (l : List Step) → length (st .places) ≡ 128 → usable st ≡ true → usable (endOf st l) ≡ true
+unfolding endOf
+end-usable st [] z h = h
+end-usable st (x ∷ l) z h = rw (decides st x h) (end-usable (decided st x .next) l (step-places st x ∙ z) (step-usable st x z h))
 
 -- where a run of schedule s stands that began at state st₀ with the buffer old and wrote from at on
 pub record Running (s old : List ℕ) (at : ℕ) (st₀ : State) (out : List ℕ) (st : State) (idle : Bool) (next i pos : ℕ) : Type 0 where

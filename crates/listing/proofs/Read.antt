@@ -11,14 +11,14 @@ use lib.IntN.{pos, negℤ, _-ℤ_, +ℤ-idl}
 use lib.ListN.{length, take, drop}
 use lib.Seq.{length-take-le}
 use borrow.Rule.Slice.PartAt.{part-to-end}
-use Rattle.records.specs.Cut.{cutOf}
-use Rattle.records.specs.File.{limit, fileOf}
-use Rattle.records.specs.declared.File.{File}
-use Rattle.records.specs.declared.Outcome.{Outcome}
-use Rattle.records.specs.declared.Outcome.the-variants.{Fine, Refused}
-use Rattle.records.specs.declared.Where.{Where}
-use Rattle.records.specs.declared.Where.the-variants.{InSetup, InSchedule}
-use Rattle.records.proofs.Within.{cut-within, Held, file-held}
+use Rattle.files.specs.Cut.{cutOf}
+use Rattle.files.specs.File.{limit, fileOf}
+use Rattle.files.specs.declared.File.{File}
+use Rattle.files.specs.declared.Outcome.the-variants.{Fine, Refused}
+use Rattle.files.specs.declared.Where.{Where}
+use Rattle.files.specs.declared.Where.the-variants.{InSetup, InSchedule}
+use Rattle.files.proofs.Cutting.{cut-within}
+use Rattle.files.proofs.Numbers.{Held, file-held}
 use Rattle.listing.specs.Listing.{listed, refused, offsetOf, linesOf, listingOf}
 
 -- the cut of the file, and what stands from it on
@@ -50,8 +50,8 @@ module _ (file : List ℕ) (k : ℕ) (r : File) (cut : k ≡ cutOf file) (read :
   refusal-low n w e = by w (rw e at held)
     where
       by : (w : Where) → Held k (length (rest file k)) (Refused n w) → offsetOf k w ≤ limit
-      by (InSetup at) h = h
-      by (InSchedule at) h = h
+      by (InSetup at) h = h .low
+      by (InSchedule at) h = h .low
 
 -- ---- minus a refusal's number
 

@@ -5,19 +5,19 @@ use mathlib.Core.List.{List, _++_}
 use lib.Dec.{leb}
 use lib.IntN.{ℤ, pos, negℤ}
 use lib.ListN.{length, take, drop}
+use Rattle.files.specs.Cut.{cutOf}
+use Rattle.files.specs.Schedule.{stepsOf}
+use Rattle.files.specs.File.{fileOf}
+use Rattle.files.specs.declared.File.{File}
+use Rattle.files.specs.declared.Outcome.{Outcome}
+use Rattle.files.specs.declared.Where.{Where}
+use Rattle.files.specs.declared.Where.the-variants.{InSetup, InSchedule}
+use Rattle.lines.specs.Lines.{stepLines, stateLines, fileLine}
 use Rattle.tables.specs.declared.Tables.{Tables}
 use Rattle.machine.specs.Fresh.{freshOf}
 use Rattle.machine.specs.declared.State.{State}
-use Rattle.records.specs.Cut.{cutOf}
-use Rattle.records.specs.Schedule.{stepsOf}
-use Rattle.records.specs.File.{fileOf}
-use Rattle.records.specs.declared.File.{File}
-use Rattle.records.specs.declared.Outcome.{Outcome}
-use Rattle.records.specs.declared.Outcome.the-variants as outcome
-use Rattle.records.specs.declared.Where.{Where}
-use Rattle.records.specs.declared.Where.the-variants.{InSetup, InSchedule}
+use Rattle.files.specs.declared.Outcome.the-variants as outcome
 use Rattle.listing.specs.Run.{endOf, answersOf}
-use Rattle.listing.specs.Lines.{stepLines, stateLines, fileLine}
 
 pub data Listing : Type 0 where
   -- a refusal's number and the byte offset of its record

@@ -10,30 +10,28 @@ use native.Mathlib.Numerals.{sub-one}
 use lib.Dec.{eqb, ltb}
 use lib.ListN.{length, getD, set, length-set}
 use lib.Seq.{getD-set-same, getD-set-other}
-use borrow.Author.Tests.{eq-eqb, ne-eqb, not-true, ltb-false}
-use Rattle.bounded.specs.Bounded.{sumBelow, firstBelow}
-use Rattle.bounded.proofs.Truth.{and-true, bool, clash}
+use borrow.Author.Tests.{eq-eqb, ne-eqb, not-true}
+use Rattle.queues.specs.Queue.{waits, nextIn}
+use Rattle.layout.specs.Cells.{placeIn, nobody}
+use Rattle.bounded.specs.Bounded.{sumBelow}
+use Rattle.bounded.proofs.Truth.{and-true}
 use Rattle.bounded.proofs.Laws.{first-is, sum-same, sum-less, sum-most}
 use Rattle.keys.specs.Keys.{member, adding}
 use Rattle.keys.proofs.Laws.{adding-same, adding-other}
-use Rattle.tables.specs.Sites.{siteCount}
 use Rattle.tables.specs.Concern.{concerns}
-use Rattle.rules.specs.Cells.{placeIn, nobody}
-use Rattle.rules.specs.Queue.{waits, nextIn}
 use Rattle.machine.specs.Parts.{placeOf, deliveredAt, withClosed}
 use Rattle.machine.specs.Rules.{nextAt, verdict}
 use Rattle.machine.specs.Usable.{usable}
 use Rattle.machine.specs.Effects.{deliverDone, carryDone, committed, closeDone}
 use Rattle.machine.specs.Refusals.{deliverRefusal, carryRefusal, closeRefusal}
-use Rattle.search.specs.Search.{nowhere, closesFirstIn, firstCarriedIn, firstClosingIn, firstDeliveringIn, firstFromIn, firstToIn, todoIn}
-use Rattle.machine.specs.Settle.{closesFirst, firstClosing, firstDelivering, firstTo, firstFrom, firstCarried, todo, after, most, settleFor, settleDone}
+use Rattle.machine.specs.Settle.{partsOf, todo, after, most, settleFor, settleDone}
 use Rattle.machine.specs.declared.State.{State}
+use Rattle.search.proofs.Frames.{close-has, carry-has}
+use Rattle.search.proofs.Accepted.{next-says, nothing-closes, nothing-delivers, nothing-carries}
 use Rattle.search.specs.declared.Todo.{Todo}
 use Rattle.search.specs.declared.Todo.the-variants.{Close, Deliver, Carry, Nothing}
-use Rattle.machine.proofs.Laws.{usable-has}
-use Rattle.machine.proofs.Carry.{carry-has, deliver-has}
-use Rattle.machine.proofs.Close.{close-has}
-use Rattle.machine.proofs.Settle.{Accepted, todo-accepted, after-usable, settle-stops, settle-goes, settle-ends}
+use Rattle.machine.proofs.Laws.{usable-has, usable-fits}
+use Rattle.machine.proofs.Settle.{Accepted, deliver-has, todo-accepted, after-usable, settle-stops, settle-goes, settle-ends}
 
 -- the arrays are as long as they are declared
 pub record Sized (st : State) : Type 0 where
@@ -126,7 +124,7 @@ left-less st (Deliver s) z h a d =
     omega (arith, delivered-less (st .delivered) (nextAt st s * 16 + s) (z .delivered) (omega (arith, u .txns, u .sites)) (next-waits st s (u .txns) l))
 left-less st (Close t s) z h a d =
     let u = usable-has st h in
-    let g = close-has st t s a in
+    let g = close-has (st .tables) (partsOf st) t s a in
     let e = closed-less (st .closed) (t * 16 + s) (verdict st t s) (z .closed) (omega (arith, u .txns, u .sites, g .txn, g .site)) (g .unclosed) (g .known) in
     stored (eqb (verdict st t s) 1) e
   where
@@ -136,7 +134,7 @@ left-less st (Close t s) z h a d =
     stored false e = omega arith
 left-less st (Carry t from to) z h a d =
     let u = usable-has st h in
-    let g = carry-has st t from to a in
+    let g = carry-has (st .tables) (st .cast) (st .carried) t from to a in
     let r : (t * 16 + to) % 16 ≡ to = omega (arith, u .sites, g .taker) in
     omega (arith, carried-less (st .carried) (t * 16 + to) from (z .carried) (omega (arith, u .txns, u .sites, g .txn, g .taker)) (omega (arith, u .sites, g .giver)) (λ e. g .differ (e ∙ r)) (g .lacks))
 left-less st Nothing z h a d = absurd (d refl)
@@ -172,17 +170,6 @@ settled (suc f) n st z h l = turn (is-nothing (todo st)) (settled f (n + 1) (aft
     turn (inr d) more = rw (settle-goes (suc f) n st (todo st) (omega arith) refl d, sub-one)
         (more (after-sized st (todo st) z) (after-usable st (todo st) h) (omega (arith, left-less st (todo st) z h (todo-accepted st h) d)))
 
--- a search that answers d, or past it, has found none that passes
-missed : (n : ℕ) (rank : ℕ → ℕ) (p : ℕ → Bool) (d : ℕ) → n ≤ d → ltb (firstBelow n rank p d) d ≡ false → (j : ℕ) → j < n → p j ≡ true → ⊥
-missed n rank p d b e j l h = elim (first-is n rank p d b) [
-  | inl g ↦ absurd (omega (arith, ltb-false (firstBelow n rank p d) d e, g .low))
-  | inr q ↦ clash h (q .1 j l)
-]
-
--- one that passes is found
-hits : (n : ℕ) (rank : ℕ → ℕ) (p : ℕ → Bool) (d : ℕ) → n ≤ d → (j : ℕ) → j < n → p j ≡ true → ltb (firstBelow n rank p d) d ≡ true
-hits n rank p d b j l h = elim (bool (ltb (firstBelow n rank p d) d)) [ inl e ↦ e | inr e ↦ absurd (missed n rank p d b e j l h) ]
-
 -- none of CLOSE, DELIVER and CARRY is accepted
 pub record Finished (st : State) : Type 0 where
   pub closes : (t s : ℕ) → closeRefusal st t s ≡ 0 → ⊥
@@ -190,38 +177,13 @@ pub record Finished (st : State) : Type 0 where
   pub carries : (t from to : ℕ) → carryRefusal st t from to ≡ 0 → ⊥
 
 -- where SETTLE has nothing to do
-searched : (st : State) → todo st ≡ Nothing
-    → (ltb (firstClosing st) nowhere ≡ false) × (ltb (firstDelivering st) nowhere ≡ false) × (ltb (firstCarried st) nobody ≡ false)
-unfolding todoIn
-searched st = by (ltb (firstClosing st) nowhere) (ltb (firstDelivering st) nowhere) (ltb (firstCarried st) nobody)
-  where
-    carry : Todo
-    carry = Carry (firstCarried st) (firstFrom st (firstCarried st)) (firstTo st (firstCarried st) (firstFrom st (firstCarried st)))
-
-    by : (a b c : Bool) → cond a (Close (closesFirst st (firstClosing st)) (firstClosing st)) (cond b (Deliver (firstDelivering st)) (cond c carry Nothing)) ≡ Nothing
-        → (a ≡ false) × (b ≡ false) × (c ≡ false)
-    by true b c e = absurd (let q : _≡_ {A = ℕ} 0 1 = cc in omega arith)
-    by false true c e = absurd (let q : _≡_ {A = ℕ} 0 1 = cc in omega arith)
-    by false false true e = absurd (let q : _≡_ {A = ℕ} 0 1 = cc in omega arith)
-    by false false false e = (refl, refl, refl)
-
 pub nothing-left : (st : State) → usable st ≡ true → todo st ≡ Nothing → Finished st
-unfolding firstClosingIn closesFirstIn firstDeliveringIn firstCarriedIn firstFromIn firstToIn
 nothing-left st h e =
-    let u = usable-has st h in
-    let n = siteCount (st .tables) in
-    let (a, b, c) = searched st e in
+    let (a, b, c) = next-says (st .tables) (partsOf st) (usable-fits st h) Nothing e in
     record {
-      closes = λ t s r.
-          let g = close-has st t s r in
-          missed n (λ i. 0) (λ s. ltb (closesFirst st s) nobody) nowhere (u .sites) a s (g .site)
-          (hits (st .tables .txns) (placeIn (st .places)) (λ t. eqb (closeRefusal st t s) 0) nobody (u .txns) t (g .txn) (eq-eqb _ _ r));
-      delivers = λ s r. missed n (λ i. 0) (λ s. eqb (deliverRefusal st s) 0) nowhere (u .sites) b s (deliver-has st s h r .0) (eq-eqb _ _ r);
-      carries = λ t from to r.
-          let g = carry-has st t from to r in
-          missed (st .tables .txns) (placeIn (st .places)) (λ t. ltb (firstFrom st t) nowhere) nobody (u .txns) c t (g .txn)
-          (hits n (λ i. 0) (λ f. ltb (firstTo st t f) nowhere) nowhere (u .sites) from (g .giver)
-          (hits n (λ i. 0) (λ s. eqb (carryRefusal st t from s) 0) nowhere (u .sites) to (g .taker) (eq-eqb _ _ r)));
+      closes = nothing-closes (st .tables) (partsOf st) (usable-fits st h) a;
+      delivers = nothing-delivers (st .tables) (partsOf st) (usable-fits st h) b;
+      carries = nothing-carries (st .tables) (partsOf st) (usable-fits st h) c;
     }
 
 pub settle-usable : (f n : ℕ) (st : State) → usable st ≡ true → usable (settleFor f n st .next) ≡ true

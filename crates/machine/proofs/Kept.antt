@@ -1,24 +1,25 @@
 -- A fresh state is usable, and a usable state stays so, whatever step is taken.
 -- Assumes nothing.
-use Prim.Native.Nat.{ℕ, suc, _+_, _-_, _≤_, _<_}
-use mathlib.Core.Path.{_≡_, refl, ap}
-use mathlib.Core.Bool.{Bool, true, false, _&&_, _||_, not, cond}
+use Prim.Native.Nat.{ℕ, zero, suc, _+_, _-_, _≤_, _<_}
+use mathlib.Core.Path.{_≡_, refl, ap, _∙_}
+use mathlib.Core.Bool.{Bool, true, false, _&&_, _||_, cond}
 use mathlib.Core.Logic.{inl, inr}
 use mathlib.Core.List.{List}
 use native.Mathlib.Omega.{arith}
 use lib.Dec.{eqb, leb, ltb}
-use lib.ListN.{set, length, replicate, getD-replicate}
+use lib.ListN.{set, length, length-set, replicate, length-replicate, getD-replicate}
 use lib.Seq.{getD-set-same, getD-set-other}
-use borrow.Author.Tests.{eq-eqb, ne-eqb, eqb-true, eqb-false, le-leb, leb-false, ltb-true, ltb-false}
-use Rattle.bounded.specs.Bounded.{firstOf}
+use borrow.Author.Tests.{eqb-true, eqb-false, le-leb, leb-false, ltb-true, ltb-false}
+use Rattle.queues.specs.Queue.{submittedIn}
+use Rattle.layout.specs.Cells.{placeIn}
+use Rattle.bounded.specs.Bounded.{allBelow, sumBelow, firstOf}
 use Rattle.bounded.proofs.Truth.{and-true, and-put, or-false, bool, same, passed}
-use Rattle.bounded.proofs.Laws.{else-none, of-none, all-get, all-put, sum-less, sum-most}
+use Rattle.bounded.proofs.Laws.{else-none, of-none, all-get, all-put, count-short}
 use Rattle.steps.specs.Kinds.{place}
 use Rattle.steps.specs.declared.Place.{Place}
 use Rattle.steps.specs.declared.Step.{Step}
 use Rattle.steps.specs.declared.Step.the-variants.{Read, Submit, Deliver, Carry, Close, Settle}
-use Rattle.rules.specs.Cells.{placeIn}
-use Rattle.rules.specs.Queue.{submittedIn}
+use Rattle.tables.specs.Empty.{noTables}
 use Rattle.tables.specs.Lists.{present, twice, readCount, writeCount}
 use Rattle.tables.specs.Sites.{sitesIn, siteCount}
 use Rattle.tables.specs.Judge.{keysRefusal, sizeRefusal, groupRefusal, countRefusal, keyRefusal, txnRefusal, judge}
@@ -26,14 +27,16 @@ use Rattle.tables.specs.declared.Tables.{Tables}
 use Rattle.tables.proofs.Laws.{count-low, groups-low}
 use Rattle.rules.specs.Fit.{countsFit, rowFits, txnFits, txnsFit, placesFit}
 use Rattle.refusals.specs.Refusals.{submitRefusalIn}
-use Rattle.machine.specs.Parts.{placeOf}
+use Rattle.machine.specs.Parts.{placeOf, withClosed}
+use Rattle.machine.specs.Rules.{verdict}
 use Rattle.machine.specs.Usable.{usable}
 use Rattle.machine.specs.Refusals.{submitRefusal, refusal}
-use Rattle.machine.specs.Effects.{readDone, submitDone}
-use Rattle.machine.specs.Settle.{most, settleDone}
-use Rattle.machine.specs.Fresh.{startOf}
-use Rattle.machine.specs.Steps.{refused, done, decided}
+use Rattle.machine.specs.Effects.{readDone, submitDone, deliverDone, carryDone, closeDone, committed}
+use Rattle.machine.specs.Settle.{todo, after, most, settleFor, settleDone}
+use Rattle.machine.specs.Fresh.{startOf, freshOf}
+use Rattle.machine.specs.Steps.{refused, done, decided, stepOf}
 use Rattle.machine.specs.declared.State.{State}
+use Rattle.search.specs.declared.Todo.{Todo}
 use Rattle.search.specs.declared.Todo.the-variants as todo
 use Rattle.machine.proofs.Laws.{usable-has}
 use Rattle.machine.proofs.Settle.{after-usable}
@@ -42,22 +45,7 @@ use Rattle.machine.proofs.Ends.{settle-usable}
 -- where one of n has no place, fewer than n have one
 few-placed : (places : List Place) (n t : ℕ) → t < n → placeIn places t ≡ 0 → submittedIn places n < n
 unfolding submittedIn
-few-placed places n t l e =
-    omega (arith, sum-less n t has all l (λ i k d. rw (ne-eqb i t d)) (rw (e, eq-eqb t t refl)), sum-most n 1 all (λ i k. one i))
-  where
-    has : ℕ → ℕ
-    has i = cond (ltb 0 (placeIn places i)) 1 0
-
-    all : ℕ → ℕ
-    all i = cond (eqb i t) 1 (has i)
-
-    at-most : (a b : Bool) → cond a 1 (cond b 1 0) ≤ 1
-    at-most true b = omega arith
-    at-most false true = omega arith
-    at-most false false = omega arith
-
-    one : (i : ℕ) → all i ≤ 1
-    one i = at-most (eqb i t) (ltb 0 (placeIn places i))
+few-placed places n t l e = count-short n t (λ i. ltb 0 (placeIn places i)) l (rw e)
 
 -- a place of at most 128 for t keeps the places fit
 place-fits : (places : List Place) (n t p : ℕ) → t < length places → p ≤ 128 → placesFit places n ≡ true → placesFit (set places t (place p)) n ≡ true
@@ -169,3 +157,67 @@ fresh-usable T h =
     nowhere-yet t l =
         let q : placeIn (replicate 128 (place 0)) t ≡ 0 = ap (λ (x : Place). x .0) (getD-replicate 128 t (place 0) (place 0) l) in
         le-leb (placeIn (replicate 128 (place 0)) t) 128 (omega arith)
+
+-- what `fresh` gives
+pub fresh-runs : (T : Tables) → usable (freshOf T .state) ≡ true
+unfolding freshOf
+fresh-runs T = by (eqb (judge T) 0) refl
+  where
+    none : usable (startOf noTables) ≡ true
+    none = unfold usable startOf noTables countsFit txnsFit placesFit allBelow sumBelow in refl
+
+    by : (b : Bool) → eqb (judge T) 0 ≡ b → usable (startOf (cond b T noTables)) ≡ true
+    by true e = fresh-usable T (eqb-true (judge T) 0 e)
+    by false e = none
+
+pub fresh-places : (T : Tables) → length (freshOf T .state .places) ≡ 128
+unfolding freshOf startOf
+fresh-places T = length-replicate 128 (place 0)
+
+-- ---- the places are as many as they were
+
+after-places : (st : State) (x : Todo) → after st x .places ≡ st .places
+unfolding deliverDone carryDone closeDone committed
+after-places st (todo.Close t s) = by (eqb (verdict st t s) 1)
+  where
+    by : (b : Bool) → withClosed (cond b (committed st t s) st) t s (verdict st t s) .places ≡ st .places
+    by true = refl
+    by false = refl
+after-places st (todo.Deliver s) = refl
+after-places st (todo.Carry t from to) = refl
+after-places st todo.Nothing = refl
+
+settle-places : (f n : ℕ) (st : State) → settleFor f n st .next .places ≡ st .places
+unfolding settleFor
+settle-places zero n st = refl
+settle-places (suc f) n st = by (todo st) refl (settle-places f (n + 1))
+  where
+    by : (x : Todo) → todo st ≡ x → ((y : State) → settleFor f (n + 1) y .next .places ≡ y .places) → settleFor (suc f) n st .next .places ≡ st .places
+    by (todo.Close t s) e more = rw (e, settleFor) (more _ ∙ after-places st (todo.Close t s))
+    by (todo.Deliver s) e more = rw (e, settleFor) (more _ ∙ after-places st (todo.Deliver s))
+    by (todo.Carry t from to) e more = rw (e, settleFor) (more _ ∙ after-places st (todo.Carry t from to))
+    by todo.Nothing e more = rw (e, settleFor)
+
+done-places : (st : State) (x : Step) → length (done st x .next .places) ≡ length (st .places)
+unfolding done settleDone readDone submitDone
+done-places st (Read t i s) = refl
+done-places st (Submit t) = simp length-set
+done-places st (Deliver s) = rw (after-places st (todo.Deliver s))
+done-places st (Carry t from to) = rw (after-places st (todo.Carry t from to))
+done-places st (Close t s) = rw (after-places st (todo.Close t s))
+done-places st Settle = rw (settle-places most 0 st)
+
+pub step-places : (st : State) (x : Step) → length (decided st x .next .places) ≡ length (st .places)
+unfolding decided
+step-places st x = by (eqb (refusal st x) 0)
+  where
+    by : (b : Bool) → length (cond b (done st x) (refused st (refusal st x)) .next .places) ≡ length (st .places)
+    by true = done-places st x
+    by false = refl
+
+-- ---- usable
+
+-- on a usable state a step is decided
+pub decides : (st : State) (x : Step) → usable st ≡ true → stepOf st x ≡ decided st x
+unfolding stepOf
+decides st x h = rw h

@@ -1,19 +1,20 @@
--- What a usable state has.
+-- What a usable state has, and rows of keys.
 -- Assumes nothing.
 use Prim.Native.Nat.{ℕ, _≤_, _<_}
-use mathlib.Core.Path.{_≡_}
+use mathlib.Core.Path.{_≡_, refl, sym, subst}
 use mathlib.Core.Bool.{true, false, _&&_, not}
-use lib.Dec.{leb, ltb}
-use borrow.Author.Tests.{leb-true, ltb-true, not-true}
-use Rattle.bounded.proofs.Truth.{and-true}
-use Rattle.bounded.proofs.Laws.{all-get}
-use Rattle.tables.specs.Lists.{rowAt, present, twice, readCount, writeCount}
-use Rattle.tables.specs.Sites.{sitesIn, siteCount}
-use Rattle.rules.specs.Cells.{placeIn}
-use Rattle.tables.specs.Fits.{Short}
-use Rattle.tables.specs.Fits.{Fits}
-use Rattle.rules.specs.Fit.{countsFit, rowFits, txnFits, txnsFit, placesFit}
 use mathlib.Core.List.{List}
+use mathlib.Core.Logic.{inl, inr}
+use native.Mathlib.Omega.{arith}
+use lib.Dec.{eqb, leb, ltb}
+use borrow.Author.Tests.{eq-eqb, leb-true, ltb-true, ltb-false, not-true}
+use Rattle.layout.specs.Cells.{placeIn}
+use Rattle.bounded.proofs.Truth.{and-true, bool, clash, same}
+use Rattle.bounded.proofs.Laws.{any-put, any-none, all-get}
+use Rattle.tables.specs.Lists.{rowAt, inRow, present, twice, readCount, writeCount}
+use Rattle.tables.specs.Sites.{sitesIn, siteCount}
+use Rattle.tables.specs.Fits.{Short, Fits}
+use Rattle.rules.specs.Fit.{countsFit, rowFits, txnFits, txnsFit, placesFit}
 use Rattle.machine.specs.Parts.{placeOf}
 use Rattle.machine.specs.Usable.{usable}
 use Rattle.machine.specs.declared.State.{State}
@@ -75,3 +76,18 @@ usable-has st h =
 -- its counts are within their limits
 pub usable-fits : (st : State) → usable st ≡ true → Fits (st .tables)
 usable-fits st h = let u = usable-has st h in record { groups = u .groups; sites = u .sites; txns = u .txns; short = u .short }
+
+pub in-row : (row : List ℕ) (t n i : ℕ) → i < n → inRow row t n (rowAt row t i) ≡ true
+unfolding inRow
+in-row row t n i l = any-put n (λ j. eqb (rowAt row t j) (rowAt row t i)) i l (eq-eqb (rowAt row t i) (rowAt row t i) refl)
+
+-- no key stands twice
+pub row-apart : (row : List ℕ) (t n i j : ℕ) → twice row t n ≡ false → i < n → j < n → rowAt row t i ≡ rowAt row t j → i ≡ j
+unfolding twice
+row-apart row t n i j h a b e = elim (same i j) [
+  | inl q ↦ q
+  | inr q ↦ elim (bool (ltb i j)) [
+    | inl l ↦ clash (subst (λ k. inRow row t j k ≡ true) e (in-row row t j i (ltb-true i j l))) (any-none n (λ i. inRow row t i (rowAt row t i)) h j b)
+    | inr l ↦ clash (subst (λ k. inRow row t i k ≡ true) (sym e) (in-row row t i j (let m = ltb-false i j l in omega arith))) (any-none n (λ i. inRow row t i (rowAt row t i)) h i a)
+  ]
+]

@@ -9,6 +9,7 @@ use native.Mathlib.Omega.{arith}
 use lib.Dec.{leb, eqb}
 use lib.ListN.{length, getD, set, length-set}
 use borrow.Author.Tests.{leb-false, eqb-false, ne-eqb, not-false}
+use Rattle.queues.specs.Queue.{submittedIn, nextOf}
 use Rattle.bounded.proofs.Truth.{passed}
 use Rattle.keys.specs.Keys.{member, adding}
 use Rattle.steps.specs.Kinds.{version, place}
@@ -18,10 +19,8 @@ use Rattle.tables.specs.Fits.{Fits}
 use Rattle.tables.specs.declared.Tables.{Tables}
 use Rattle.layout.specs.Layout.{portion, theVersions, theValues, theReadVersions, theReadValues, thePlaces, theRecorded, theDelivered, theClosed, theCast}
 use Rattle.layout.proofs.Laws.{portion-at, portion-set, portion-other}
-use Rattle.rules.specs.Cells.{nobody}
-use Rattle.rules.specs.Queue.{submittedIn}
-use Rattle.rules.specs.Asked.{nextOf}
-use Rattle.rules.proofs.Parts.{version-at, cast-at}
+use Rattle.layout.specs.Cells.{nobody}
+use Rattle.layout.proofs.Cells.{version-at, cast-at}
 use Rattle.refusals.specs.Refusals.{readRefusalIn, submitRefusalIn, deliverRefusalIn}
 use Rattle.refusals.proofs.Next.{next-low}
 use Rattle.machine.specs.Parts.{withRead, withPlace, withDelivery, withCarried, withClosed}
@@ -39,7 +38,7 @@ use Rattle.steps.specs.declared.Answer.{Answer}
 use Rattle.steps.specs.declared.Answer.the-variants as answer
 use Rattle.steps.specs.declared.Step.{Step}
 use Rattle.steps.specs.declared.Step.the-variants.{Read, Submit, Deliver, Carry, Settle}
-use Rattle.machine.proofs.Carry.{carry-has}
+use Rattle.search.proofs.Frames.{carry-has}
 use Rattle.machine.proofs.Settle.{settle-stops, taken}
 
 -- ---- a step refused or accepted
@@ -198,7 +197,7 @@ module _ (T : Tables) (numbers : List ℕ) (flags : List Bool) (marks carried : 
       (stateOf T numbers flags marks (set carried (t * 16 + s) (cond (member (getD carried (t * 16 + s) 0) f) (getD carried (t * 16 + s) 0) (adding (getD carried (t * 16 + s) 0) f))))
   unfolding refusal done carryDone
   carry-taken t f s h z =
-      let k = carry-has (stateOf T numbers flags marks carried) t f s z in
+      let k = carry-has T (theCast marks) carried t f s z in
       accepts (stateOf T numbers flags marks carried) (Carry t f s) z _ _ (rw (cast-at marks t f (omega (arith, k .txn, h .txns)) (omega (arith, k .giver, h .sites)))) (carried-lent t f s (k .lacks))
 
 -- ---- the arrays of a state

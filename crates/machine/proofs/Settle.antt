@@ -1,68 +1,32 @@
 -- What SETTLE takes next is accepted, and one turn of it.
 -- Assumes nothing.
-use Prim.Native.Nat.{ℕ, zero, suc, _+_, _-_, _≤_, _<_}
-use mathlib.Core.Path.{_≡_, refl, sym, subst, _∙_}
+use Prim.Native.Nat.{ℕ, zero, suc, _+_, _-_, _<_}
+use mathlib.Core.Path.{_≡_, refl}
 use mathlib.Core.Bool.{Bool, true, false, cond}
-use mathlib.Core.Logic.{inl, inr}
-use mathlib.Core.List.{[], _∷_}
-use types.Run.{OneOf, miss}
-use denote.Enum.Declared.{tagOf}
 use native.Mathlib.Omega.{arith}
 use native.Mathlib.Numerals.{sub-one}
 use native.Mathlib.Nat.{not-suc-le-zero}
-use lib.Dec.{eqb, ltb}
-use borrow.Author.Tests.{ltb-true, eqb-true}
-use Rattle.bounded.specs.Bounded.{firstBelow, leastBelow}
-use Rattle.bounded.proofs.Laws.{first-is}
+use lib.Dec.{eqb, leb}
+use borrow.Author.Tests.{leb-false, eqb-false}
+use Rattle.layout.specs.Cells.{nobody}
+use Rattle.refusals.specs.Refusals.{deliverRefusalIn}
+use Rattle.refusals.proofs.Next.{next-low}
+use Rattle.bounded.proofs.Truth.{passed}
 use Rattle.tables.specs.Sites.{siteCount}
-use Rattle.rules.specs.Cells.{nobody, placeIn}
 use Rattle.machine.specs.Parts.{withClosed}
-use Rattle.machine.specs.Rules.{verdict}
+use Rattle.machine.specs.Rules.{nextAt, verdict}
 use Rattle.machine.specs.Usable.{usable}
 use Rattle.machine.specs.Refusals.{deliverRefusal, carryRefusal, closeRefusal, refusal}
 use Rattle.machine.specs.Effects.{giving, deliverDone, carryDone, committed, closeDone}
-use Rattle.search.specs.Search.{nowhere, closesFirstIn, firstCarriedIn, firstClosingIn, firstDeliveringIn, firstFromIn, firstToIn, todoIn}
-use Rattle.machine.specs.Settle.{closesFirst, firstClosing, firstDelivering, firstTo, firstFrom, firstCarried, todo, after, settleFor}
+use Rattle.machine.specs.Settle.{partsOf, todo, after, settleFor}
 use Rattle.machine.specs.Steps.{done, decided}
 use Rattle.machine.specs.declared.State.{State}
+use Rattle.search.proofs.Accepted.{Says, next-says}
 use Rattle.search.specs.declared.Todo.{Todo}
 use Rattle.search.specs.declared.Todo.the-variants.{Close, Deliver, Carry, Nothing}
 use Rattle.steps.specs.declared.Step.{Step}
 use Rattle.steps.specs.declared.Answer.the-variants as answer
-use Rattle.search.proofs.Todo as kind
-use Rattle.machine.proofs.Laws.{Usable, usable-has}
-
--- a search that answers below d has found what passes
-found : (n : ℕ) (rank : ℕ → ℕ) (p : ℕ → Bool) (d : ℕ) → n ≤ d → ltb (firstBelow n rank p d) d ≡ true → p (firstBelow n rank p d) ≡ true
-found n rank p d b l = elim (first-is n rank p d b) [
-  | inl g ↦ g .passes
-  | inr q ↦ absurd (omega (arith, ltb-true (firstBelow n rank p d) d l, q .0))
-]
-
-module _ (st : State) (u : Usable st) where
-  close-first : ltb (firstClosing st) nowhere ≡ true → closeRefusal st (closesFirst st (firstClosing st)) (firstClosing st) ≡ 0
-  unfolding firstClosingIn closesFirstIn
-  close-first e =
-      let s = leastBelow (siteCount (st .tables)) (λ s. ltb (closesFirst st s) nobody) nowhere in
-      eqb-true _ _ (found (st .tables .txns) (placeIn (st .places)) (λ t. eqb (closeRefusal st t s) 0) nobody (u .txns)
-      (found (siteCount (st .tables)) (λ i. 0) (λ s. ltb (closesFirst st s) nobody) nowhere (u .sites) e))
-
-  deliver-first : ltb (firstDelivering st) nowhere ≡ true → deliverRefusal st (firstDelivering st) ≡ 0
-  unfolding firstDeliveringIn
-  deliver-first e = eqb-true _ _ (found (siteCount (st .tables)) (λ i. 0) (λ s. eqb (deliverRefusal st s) 0) nowhere (u .sites) e)
-
-  carry-first : ltb (firstCarried st) nobody ≡ true
-      → let t = firstCarried st in carryRefusal st t (firstFrom st t) (firstTo st t (firstFrom st t)) ≡ 0
-  unfolding firstCarriedIn
-  carry-first e =
-      let t = firstBelow (st .tables .txns) (placeIn (st .places)) (λ t. ltb (firstFrom st t) nowhere) nobody in
-      to t (firstFrom st t) (from t (found (st .tables .txns) (placeIn (st .places)) (λ t. ltb (firstFrom st t) nowhere) nobody (u .txns) e))
-    where
-      from : (t : ℕ) → ltb (firstFrom st t) nowhere ≡ true → ltb (firstTo st t (firstFrom st t)) nowhere ≡ true
-      from t h = unfold firstFromIn in found (siteCount (st .tables)) (λ i. 0) (λ f. ltb (firstTo st t f) nowhere) nowhere (u .sites) h
-
-      to : (t f : ℕ) → ltb (firstTo st t f) nowhere ≡ true → carryRefusal st t f (firstTo st t f) ≡ 0
-      to t f h = unfold firstToIn in eqb-true _ _ (found (siteCount (st .tables)) (λ i. 0) (λ s. eqb (carryRefusal st t f s) 0) nowhere (u .sites) h)
+use Rattle.machine.proofs.Laws.{usable-has, usable-fits}
 
 -- what SETTLE takes next is accepted
 abbrev pub Accepted : State → Todo → Type 0
@@ -72,23 +36,21 @@ Accepted st (Carry t from to) = carryRefusal st t from to ≡ 0
 Accepted st Nothing = Unit {0}
 
 pub todo-accepted : (st : State) → usable st ≡ true → Accepted st (todo st)
-unfolding todoIn
-todo-accepted st h = closing (ltb (firstClosing st) nowhere) refl
+todo-accepted st h = by (todo st) (next-says (st .tables) (partsOf st) (usable-fits st h) (todo st) refl)
   where
-    carrying : (b : Bool) → ltb (firstCarried st) nobody ≡ b
-        → Accepted st (cond b (Carry (firstCarried st) (firstFrom st (firstCarried st)) (firstTo st (firstCarried st) (firstFrom st (firstCarried st)))) Nothing)
-    carrying true e = carry-first st (usable-has st h) e
-    carrying false e = tt
+    by : (x : Todo) → Says (st .tables) (partsOf st) x → Accepted st x
+    by (Close t s) z = z .1
+    by (Deliver s) z = z .1
+    by (Carry t from to) z = z .accepted
+    by Nothing z = tt
 
-    delivering : (b : Bool) → ltb (firstDelivering st) nowhere ≡ b
-        → Accepted st (cond b (Deliver (firstDelivering st)) (cond (ltb (firstCarried st) nobody) (Carry (firstCarried st) (firstFrom st (firstCarried st)) (firstTo st (firstCarried st) (firstFrom st (firstCarried st)))) Nothing))
-    delivering true e = deliver-first st (usable-has st h) e
-    delivering false e = carrying (ltb (firstCarried st) nobody) refl
-
-    closing : (b : Bool) → ltb (firstClosing st) nowhere ≡ b
-        → Accepted st (cond b (Close (closesFirst st (firstClosing st)) (firstClosing st)) (cond (ltb (firstDelivering st) nowhere) (Deliver (firstDelivering st)) (cond (ltb (firstCarried st) nobody) (Carry (firstCarried st) (firstFrom st (firstCarried st)) (firstTo st (firstCarried st) (firstFrom st (firstCarried st)))) Nothing)))
-    closing true e = close-first st (usable-has st h) e
-    closing false e = delivering (ltb (firstDelivering st) nowhere) refl
+-- DELIVER accepted: s is a site, and what it delivers a transaction
+pub deliver-has : (st : State) (s : ℕ) → usable st ≡ true → deliverRefusal st s ≡ 0
+    → (s < siteCount (st .tables)) × (nextAt st s < st .tables .txns)
+unfolding deliverRefusalIn
+deliver-has st s u h =
+    let (a, h1) = passed 21 (omega arith) (leb (siteCount (st .tables)) s) _ h in
+    (leb-false _ _ a, next-low (st .tables) (st .places) (st .delivered) s (usable-has st u .txns) (eqb-false _ _ (passed 26 (omega arith) (eqb (nextAt st s) nobody) _ h1 .0)))
 
 -- a step of SETTLE leaves a usable state usable
 pub after-usable : (st : State) (x : Todo) → usable st ≡ true → usable (after st x) ≡ true
@@ -124,11 +86,3 @@ settle-ends f n st e = rw e
 pub taken : (st : State) (x : Step) → refusal st x ≡ 0 → decided st x ≡ done st x
 unfolding decided
 taken st x e = rw e
-
--- what is next, where it is known to be x
-pub next-accepted : (st : State) (x y : Todo) → usable st ≡ true → x ≡ todo st → x ≡ y → Accepted st y
-next-accepted st x y h e d = subst (Accepted st) (sym e ∙ d) (todo-accepted st h)
-
--- the other arm of the test for nothing left
-pub something : (x : Todo) → OneOf (0 ∷ 1 ∷ 2 ∷ []) (tagOf kind.the-type x) → x ≡ Nothing → ⊥
-something x k e = miss (0 ∷ 1 ∷ 2 ∷ []) 3 tt (subst (λ (y : Todo). OneOf (0 ∷ 1 ∷ 2 ∷ []) (tagOf kind.the-type y)) e k)

@@ -1,26 +1,22 @@
 -- A commit in the lent numbers: what it leaves, and one turn of it.
 -- Assumes nothing.
-use Prim.Native.Nat.{ℕ, zero, suc, _+_, _*_, _≤_, _<_}
+use Prim.Native.Nat.{ℕ, zero, suc, _+_, _*_, _<_}
 use mathlib.Core.Path.{_≡_, refl, sym, ap, _∙_}
 use mathlib.Core.Bool.{Bool, true, false, cond}
-use mathlib.Core.Logic.{_⊎_, inl, inr}
+use mathlib.Core.Logic.{inl, inr}
 use mathlib.Core.List.{List}
 use native.Mathlib.Omega.{arith}
-use lib.Dec.{eqb, ltb}
-use lib.ListN.{length, getD, set, length-set, List·getD-eq-default}
-use lib.Seq.{getD-set-same, getD-set-other}
-use borrow.Author.Tests.{eq-eqb, ltb-true, ltb-false}
-use Rattle.bounded.specs.Bounded.{anyBelow}
-use Rattle.bounded.proofs.Truth.{bool, clash, same}
-use Rattle.bounded.proofs.Laws.{any-none}
-use Rattle.tables.specs.Lists.{rowAt, inRow, twice, writeCount, writeKey, writeValue}
+use lib.Dec.{eqb}
+use lib.ListN.{length, getD, set, length-set}
+use lib.Seq.{getD-set-other}
+use Rattle.tables.specs.Lists.{writeCount, writeKey, writeValue}
 use Rattle.tables.specs.Sites.{siteCount, holds}
 use Rattle.tables.specs.declared.Tables.{Tables}
 use Rattle.keys.specs.Keys.{member}
 use Rattle.plan.specs.Plan.{siteSet, writeAt, givenAt, writesOf, txnsOf, sitesOf}
 use Rattle.layout.specs.Layout.{theVersions, theValues}
 use Rattle.layout.proofs.Laws.{portion-other}
-use Rattle.rules.proofs.Parts.{version-at}
+use Rattle.layout.proofs.Cells.{version-at}
 use Rattle.steps.specs.Kinds.{version, place}
 use Rattle.steps.specs.declared.Version.{Version}
 use Rattle.machine.specs.Parts.{versionAt, withClosed, withStores}
@@ -30,66 +26,27 @@ use Rattle.machine.specs.Effects.{stored, versionsAfter, valuesAfter, co
 use Rattle.machine.specs.Refusals.{closeRefusal}
 use Rattle.machine.specs.Lent.{stateOf, Ready}
 use Rattle.machine.specs.declared.State.{State}
-use Rattle.machine.proofs.Laws.{usable-has}
-use Rattle.machine.proofs.Close.{stored-up, room-has, close-has}
+use Rattle.machine.proofs.Laws.{usable-has, row-apart}
+use Rattle.machine.proofs.Close.{stored-up, room-has}
+use Rattle.machine.specs.Settle.{partsOf}
+use Rattle.search.proofs.Frames.{close-has}
 use Rattle.machine.proofs.Lent.{put-at, closed-lent}
 
--- a commit leaves the cells that it does not write
-pub stored-elsewhere : {A : Type 0} (T : Tables) (t s : ℕ) (d : A) (f : ℕ → A → A) (l : List A) (n j : ℕ)
-    → ((i : ℕ) → i < n → j ≡ s * 64 + writeKey T t i → ⊥) → getD (stored T t s d f l n) j d ≡ getD l j d
-unfolding stored
-stored-elsewhere T t s d f l zero j h = refl
-stored-elsewhere T t s d f l (suc n) j h = by (holds T s (writeKey T t n)) (stored-elsewhere T t s d f l n j (λ i b. h i (omega arith)))
-  where
-    by : (b : Bool) → getD (stored T t s d f l n) j d ≡ getD l j d
-        → getD (cond b (set (stored T t s d f l n) (s * 64 + writeKey T t n) (f n (getD l (s * 64 + writeKey T t n) d))) (stored T t s d f l n)) j d ≡ getD l j d
-    by true e = getD-set-other (stored T t s d f l n) (s * 64 + writeKey T t n) j (f n (getD l (s * 64 + writeKey T t n) d)) d (h n (omega arith)) ∙ e
-    by false e = e
-
--- a cell that was stored into has what was stored, or stands past the end and is as it was
-put-or : {A : Type 0} (l : List A) (i : ℕ) (v d : A) → (getD (set l i v) i d ≡ v) ⊎ (getD (set l i v) i d ≡ getD l i d)
-put-or l i v d = elim (bool (ltb i (length l))) [
-  | inl e ↦ inl (getD-set-same l i v d (ltb-true i (length l) e))
-  | inr e ↦
-      let b = ltb-false i (length l) e in
-      inr (List·getD-eq-default (set l i v) d (omega (arith, length-set l i v)) ∙ sym (List·getD-eq-default l d b))
-]
+module _ {A : Type 0} (T : Tables) (t s : ℕ) (d : A) (f : ℕ → A → A) (l : List A) where
+  -- a cell that no written key held by s has is as it was
+  pub stored-other : (n j : ℕ) → ((i : ℕ) → i < n → holds T s (writeKey T t i) ≡ true → j ≡ s * 64 + writeKey T t i → ⊥) → getD (stored T t s d f l n) j d ≡ getD l j d
+  unfolding stored
+  stored-other zero j h = refl
+  stored-other (suc n) j h = by (holds T s (writeKey T t n)) refl (stored-other n j (λ i b. h i (omega arith)))
+    where
+      by : (b : Bool) → holds T s (writeKey T t n) ≡ b → getD (stored T t s d f l n) j d ≡ getD l j d
+          → getD (cond b (set (stored T t s d f l n) (s * 64 + writeKey T t n) (f n (getD l (s * 64 + writeKey T t n) d))) (stored T t s d f l n)) j d ≡ getD l j d
+      by true k e = getD-set-other (stored T t s d f l n) (s * 64 + writeKey T t n) j (f n (getD l (s * 64 + writeKey T t n) d)) d (h n (omega arith) k) ∙ e
+      by false k e = e
 
 -- a version raised
 abbrev pub raise : ℕ → Version → Version
 raise i v = version (v .0 + 1)
-
--- its versions only grow
-pub stored-grows : (T : Tables) (t s : ℕ) (l : List Version) (n j : ℕ) → getD l j (version 0) .0 ≤ getD (stored T t s (version 0) raise l n) j (version 0) .0
-unfolding stored
-stored-grows T t s l zero j = omega arith
-stored-grows T t s l (suc n) j = by (holds T s (writeKey T t n)) (stored-grows T t s l n j)
-  where
-    k : ℕ
-    k = s * 64 + writeKey T t n
-
-    m : List Version
-    m = stored T t s (version 0) raise l n
-
-    v : Version
-    v = version (getD l k (version 0) .0 + 1)
-
-    by : (b : Bool) → getD l j (version 0) .0 ≤ getD m j (version 0) .0 → getD l j (version 0) .0 ≤ getD (cond b (set m k v) m) j (version 0) .0
-    by true h = elim (same j k) [
-      | inl e ↦ elim (put-or m k v (version 0)) [
-        | inl p ↦ rw (e, p) (omega arith)
-        | inr p ↦ rw (e, p) (rw e at h)
-      ]
-      | inr d ↦ rw (getD-set-other m k j v (version 0) d) h
-    ]
-    by false h = h
-
--- of a list with no key twice
-apart : (row : List ℕ) (t n i j : ℕ) → twice row t n ≡ false → i < n → j < i → rowAt row t i ≡ rowAt row t j → ⊥
-unfolding twice inRow
-apart row t n i j h l m e =
-    clash (eq-eqb (rowAt row t j) (rowAt row t i) (sym e))
-    (any-none i (λ j. eqb (rowAt row t j) (rowAt row t i)) (any-none n (λ i. anyBelow i (λ j. eqb (rowAt row t j) (rowAt row t i))) h i l) j m)
 
 -- the first i writes of t are committed at s
 abbrev pub partly : State → ℕ → ℕ → ℕ → State
@@ -137,8 +94,8 @@ module _ (T : Tables) (start numbers : List ℕ) (flags : List Bool) (marks carr
   still : getD numbers (s * 64 + k) 0 ≡ versionAt st s k
   still =
       sym (version-at numbers s k (cell-low .0) (cell-low .1)) ∙ ap (λ (x : State). versionAt x s k) e
-      ∙ ap (λ (v : Version). v .0) (stored-elsewhere T t s (version 0) raise (theVersions start) i (s * 64 + k)
-      (λ j m q. apart (T .writes) t (writeCount T t) i j (usable-has st ok .writes t a .once) l m (omega arith)))
+      ∙ ap (λ (v : Version). v .0) (stored-other T t s (version 0) raise (theVersions start) i (s * 64 + k)
+      (λ j m _ q. let e = row-apart (T .writes) t (writeCount T t) i j (usable-has st ok .writes t a .once) l (omega arith) (omega arith) in absurd (omega arith)))
 
   -- where s holds the key it is stored, else nothing is
   turn-stores : holds T s k ≡ true → 1024 + (s * 64 + k) < length numbers
@@ -222,6 +179,6 @@ unfolding closeDone
 close-lent T start numbers flags marks next carried t s v ok z e q n l =
     let st = stateOf T start flags marks carried in
     let u = usable-has st ok in
-    let k = close-has st t s z in
+    let k = close-has T (partsOf st) t s z in
     rw n (closed-lent T numbers flags marks carried t s v (omega (arith, u .txns, k .txn)) (omega (arith, u .sites, k .site)) l)
     ∙ ap (λ (x : State). withClosed x t s v) q ∙ ap (λ (v : ℕ). withClosed (cond (eqb v 1) (committed st t s) st) t s v) e

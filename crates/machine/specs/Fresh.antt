@@ -1,20 +1,15 @@
 -- A fresh state: each replica at version 1 with the first value, and nothing done.
-use Prim.Native.Nat.{ℕ, _/_, _%_}
-use mathlib.Core.Bool.{Bool, false, cond}
+use mathlib.Core.Bool.{false, cond}
 use lib.Dec.{eqb}
-use lib.ListN.{getD, replicate}
+use lib.ListN.{replicate}
 use Rattle.bounded.specs.Bounded.{listFrom}
-use Rattle.tables.specs.Sites.{holds}
+use Rattle.tables.specs.First.{firstAt}
 use Rattle.tables.specs.Empty.{noTables}
 use Rattle.tables.specs.Judge.{judge}
 use Rattle.tables.specs.declared.Tables.{Tables}
 use Rattle.steps.specs.Kinds.{version, place}
 use Rattle.machine.specs.declared.State.{State}
 use Rattle.machine.specs.declared.Fresh.{Fresh}
-
--- the value at store place j: the first value of the key where the site holds it
-abbrev pub firstAt : Tables → ℕ → ℕ
-firstAt T j = cond (holds T (j / 64) (j % 64)) (getD (T .first) (j % 64) 0) 0
 
 unfoldable pub startOf : Tables → State
 startOf T = record {

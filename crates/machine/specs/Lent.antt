@@ -1,5 +1,5 @@
 -- The state that lent arrays hold, and a step taken in them.
-use Prim.Native.Nat.{ℕ}
+use Prim.Native.Nat.{ℕ, _+_, _-_, _≤_}
 use mathlib.Core.Bool.{Bool, true, false}
 use mathlib.Core.List.{List}
 use mathlib.Core.Path.{_≡_}
@@ -8,7 +8,9 @@ use Rattle.tables.specs.declared.Tables.{Tables}
 use Rattle.plan.specs.Plan.{Plan}
 use Rattle.layout.specs.Layout.{theVersions, theValues, theReadVersions, theReadValues, thePlaces, theRecorded, theDelivered, theClosed, theCast}
 use Rattle.machine.specs.Usable.{usable}
-use Rattle.machine.specs.Settle.{most}
+use Rattle.search.specs.Known.{Knows}
+use Rattle.search.specs.declared.Todo.the-variants.{Nothing}
+use Rattle.machine.specs.Settle.{partsOf, todo, settleFor, most}
 use Rattle.machine.specs.Steps.{decided}
 use Rattle.machine.specs.declared.State.{State}
 use Rattle.steps.specs.declared.Step.{Step}
@@ -44,6 +46,16 @@ Runs numbers flags marks carried plan = (T : Tables) × Ready (stateOf T numbers
 -- x is answered with a and leaves the state after
 abbrev pub Takes : State → Step → Answer → State → Type 0
 Takes st x a after = (a ≡ decided st x .answer) × (after ≡ decided st x .next)
+
+-- k steps of SETTLE lead from st to st′, none only where there is nothing to do, and what is known of st, l, turns into l′
+pub record Turned (st : State) (k : ℕ) (st′ : State) (order l′ : List ℕ) : Type 0 where
+  pub ok : usable st′ ≡ true
+  pub knows : Knows (st′ .tables) (partsOf st′) order l′
+  pub stops : k ≡ 0 → todo st′ ≡ Nothing
+  pub same : (f n : ℕ) → k ≤ f → settleFor f n st ≡ settleFor (f - k) (n + k) st′
+
+abbrev pub Turns : State → ℕ → State → List ℕ → List ℕ → List ℕ → Type 0
+Turns st k st′ order l l′ = Knows (st .tables) (partsOf st) order l → Turned st k st′ order l′
 
 -- whether SETTLE is known to have nothing to do: after one that took less steps than it may, until another step is accepted than READ
 unfoldable pub idleAfter : Bool → Answer → Bool

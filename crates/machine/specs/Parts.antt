@@ -3,10 +3,9 @@ use Prim.Native.Nat.{ℕ, _+_, _*_}
 use mathlib.Core.Bool.{Bool, true, false}
 use mathlib.Core.List.{List}
 use lib.ListN.{getD, set}
+use Rattle.layout.specs.Cells.{placeIn, cell, versionIn, recordedIn}
 use Rattle.keys.specs.Keys.{adding}
 use Rattle.steps.specs.Kinds.{version, place}
-use Rattle.rules.specs.Cells.{placeIn, cell, versionIn}
-use Rattle.rules.specs.Votes.{recordedIn}
 use Rattle.steps.specs.declared.Version.{Version}
 use Rattle.machine.specs.declared.State.{State}
 
@@ -72,9 +71,9 @@ withPlace st t p = record {
   carried = st .carried;
 }
 
--- with t in the queue of s, and the vote v of s
-abbrev pub withDelivery : State → ℕ → ℕ → ℕ → State
-withDelivery st t s v = record {
+-- with these delivered, closed, cast and carried
+abbrev pub withQueues : State → List Bool → List ℕ → List ℕ → List ℕ → State
+withQueues st delivered closed cast carried = record {
   tables = st .tables;
   versions = st .versions;
   values = st .values;
@@ -82,43 +81,23 @@ withDelivery st t s v = record {
   readversions = st .readversions;
   readvalues = st .readvalues;
   places = st .places;
-  delivered = set (st .delivered) (t * 16 + s) true;
-  closed = st .closed;
-  cast = set (st .cast) (t * 16 + s) v;
-  carried = st .carried;
+  delivered = delivered;
+  closed = closed;
+  cast = cast;
+  carried = carried;
 }
+
+-- with t in the queue of s, and the vote v of s
+abbrev pub withDelivery : State → ℕ → ℕ → ℕ → State
+withDelivery st t s v = withQueues st (set (st .delivered) (t * 16 + s) true) (st .closed) (set (st .cast) (t * 16 + s) v) (st .carried)
 
 -- with the vote of f on t carried to s
 abbrev pub withCarried : State → ℕ → ℕ → ℕ → State
-withCarried st t f s = record {
-  tables = st .tables;
-  versions = st .versions;
-  values = st .values;
-  recorded = st .recorded;
-  readversions = st .readversions;
-  readvalues = st .readvalues;
-  places = st .places;
-  delivered = st .delivered;
-  closed = st .closed;
-  cast = st .cast;
-  carried = set (st .carried) (t * 16 + s) (adding (carriedTo st t s) f);
-}
+withCarried st t f s = withQueues st (st .delivered) (st .closed) (st .cast) (set (st .carried) (t * 16 + s) (adding (carriedTo st t s) f))
 
 -- with t closed at s by the verdict c
 abbrev pub withClosed : State → ℕ → ℕ → ℕ → State
-withClosed st t s c = record {
-  tables = st .tables;
-  versions = st .versions;
-  values = st .values;
-  recorded = st .recorded;
-  readversions = st .readversions;
-  readvalues = st .readvalues;
-  places = st .places;
-  delivered = st .delivered;
-  closed = set (st .closed) (t * 16 + s) c;
-  cast = st .cast;
-  carried = st .carried;
-}
+withClosed st t s c = withQueues st (st .delivered) (set (st .closed) (t * 16 + s) c) (st .cast) (st .carried)
 
 -- with these stores
 abbrev pub withStores : State → List Version → List ℕ → State

@@ -1,9 +1,9 @@
 -- The protocol's questions, asked of a state.
 use Prim.Native.Nat.{ℕ}
 use mathlib.Core.Bool.{Bool}
-use Rattle.rules.specs.Queue.{queuedIn, headIn, submittedIn}
+use Rattle.queues.specs.Queue.{queuedIn, headIn, submittedIn, nextOf, blockedOf}
 use Rattle.rules.specs.Votes.{holdsVote}
-use Rattle.rules.specs.Asked.{nextOf, blockedOf, voteIn, verdictAt, roomOf}
+use Rattle.rules.specs.Asked.{voteIn, verdictAt, roomOf}
 use Rattle.machine.specs.Parts.{castBy, carriedTo}
 use Rattle.machine.specs.declared.State.{State}
 

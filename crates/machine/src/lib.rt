@@ -1,21 +1,24 @@
 // The machine: the state of all sites, the steps of the protocol and their answers.
 ghost use mathlib.Core.Path.{_≡_};
-ghost use mathlib.Core.Bool.{Bool, true, cond};
+ghost use mathlib.Core.Bool.{Bool, true};
 ghost use mathlib.Core.List.{List};
 ghost use Prim.Native.Nat.{ℕ, _≤_, _<_};
-ghost use Rattle.keys.specs.Keys.{member};
+ghost use lib.ListN.{getD};
 ghost use Rattle.tables.specs.declared.Tables.{Tables};
 ghost use Rattle.plan.specs.Plan.{txnsOf, sitesOf, Laid, Plan};
 ghost use Rattle.layout.specs.Layout.{theVersions, theValues, theReadVersions, theReadValues, thePlaces};
+ghost use Rattle.layout.specs.Cells.{nobody};
 ghost use Rattle.machine.specs.Parts.{withDelivery};
-ghost use Rattle.machine.specs.Rules.{voteOf, verdict, roomAt};
+ghost use Rattle.machine.specs.Rules.{nextAt, voteOf, verdict, roomAt};
 ghost use Rattle.machine.specs.Usable.{usable};
 ghost use Rattle.machine.specs.Refusals.{closeRefusal};
 ghost use Rattle.machine.specs.Effects.{committed, closeDone};
 ghost use Rattle.machine.specs.Settle.{todo, settleDone};
-ghost use Rattle.search.specs.declared.Todo.the-variants.{Nothing};
+ghost use Rattle.search.specs.Search.{lent};
+ghost use Rattle.search.specs.Known.{Knows, Ranged};
+ghost use Rattle.search.specs.declared.Todo.the-variants.{Close, Deliver, Nothing};
 ghost use Rattle.machine.specs.Steps.{decided, stepOf};
-ghost use Rattle.machine.specs.Lent.{stateOf, Ready, Planned, Runs, Takes, idleAfter};
+ghost use Rattle.machine.specs.Lent.{stateOf, Ready, Planned, Runs, Takes, Turns, idleAfter};
 ghost use Rattle.machine.specs.Fresh.{startOf, freshOf};
 use search::Todo;
 use steps::Answer;
@@ -133,7 +136,7 @@ fn take_submit<'a, 'b>(
     if n != 0 {
         return Answer::Refused(n);
     }
-    let place = rules::submitted(plan, numbers) + 1;
+    let place = queues::submitted(plan, numbers) + 1;
     layout::put_number(numbers, 4096 + wide(t), place);
     Answer::Submitted(Place(place))
 }
@@ -172,7 +175,7 @@ fn take_deliver<'a, 'b>(
     if n != 0 {
         return Answer::Refused(n);
     }
-    let t = rules::next_at(plan, numbers, flags, wide(s));
+    let t = queues::next_at(plan, numbers, flags, wide(s));
     let vote = deliver_at(plan, numbers, flags, marks, wide(t), wide(s));
     Answer::Delivered { t, vote }
 }
@@ -260,7 +263,116 @@ fn take_close<'a, 'b>(
     Answer::Closed(close_at(plan, numbers, flags, marks, carried, wide(t), wide(s)))
 }
 
-// SETTLE: the first step accepted among CLOSE, DELIVER and CARRY, until none is; the answer is how many.
+// ---- SETTLE: the first step accepted among CLOSE, DELIVER and CARRY, until none is
+
+// CLOSE of t at s, where that comes next, and what is known after it.
+fn close_next<'a, 'b>(
+    plan: &'a [u64; 3666],
+    order: &'a [u8; 128],
+    numbers: &'b mut [u32; 4224],
+    flags: &'a [bool; 3072],
+    marks: &'b mut [u8; 4096],
+    carried: &'a [u16; 2048],
+    known: &'b mut [u16; 209],
+    t: usize,
+    s: usize,
+)
+    requires { ⌜ ((T : Tables) × (Ready (stateOf T (now numbers) (now flags) (now marks) (now carried)) (now plan) × (todo (stateOf T (now numbers) (now flags) (now marks) (now carried)) ≡ Close t s))) ⌝ }
+    requires { ⌜ Ranged (now known) ⌝ }
+    ensures { λ _. ⌜ ((T : Tables) → Ready (stateOf T (now (numbers .entry)) (now (flags .entry)) (now (marks .entry)) (now (carried .entry))) (now (plan .entry)) → todo (stateOf T (now (numbers .entry)) (now (flags .entry)) (now (marks .entry)) (now (carried .entry))) ≡ Close t s → Turns (stateOf T (now (numbers .entry)) (now (flags .entry)) (now (marks .entry)) (now (carried .entry))) 1 (stateOf T (now (numbers .exit)) (now (flags .entry)) (now (marks .exit)) (now (carried .entry))) (now (order .entry)) (now (known .entry)) (now (known .exit))) ⌝ }
+    ensures { λ _. ⌜ Ranged (now (known .exit)) ⌝ }
+{
+    let _ = close_at(plan, numbers, flags, marks, carried, t, s);
+    search::after_close(order, flags, marks, known, s);
+}
+
+// DELIVER at s of who stands at position p, where that comes next, and what is known after it.
+fn deliver_next<'a, 'b>(
+    plan: &'a [u64; 3666],
+    order: &'a [u8; 128],
+    numbers: &'a [u32; 4224],
+    flags: &'b mut [bool; 3072],
+    marks: &'b mut [u8; 4096],
+    carried: &'a [u16; 2048],
+    known: &'b mut [u16; 209],
+    s: usize,
+    p: u16,
+)
+    requires { ⌜ ((T : Tables) × (Ready (stateOf T (now numbers) (now flags) (now marks) (now carried)) (now plan) × ((todo (stateOf T (now numbers) (now flags) (now marks) (now carried)) ≡ Deliver s) × (getD (now order) p nobody ≡ nextAt (stateOf T (now numbers) (now flags) (now marks) (now carried)) s)))) ⌝ }
+    requires { ⌜ Ranged (now known) × (p < 128) ⌝ }
+    ensures { λ _. ⌜ ((T : Tables) → Ready (stateOf T (now (numbers .entry)) (now (flags .entry)) (now (marks .entry)) (now (carried .entry))) (now (plan .entry)) → todo (stateOf T (now (numbers .entry)) (now (flags .entry)) (now (marks .entry)) (now (carried .entry))) ≡ Deliver s → getD (now (order .entry)) p nobody ≡ nextAt (stateOf T (now (numbers .entry)) (now (flags .entry)) (now (marks .entry)) (now (carried .entry))) s → Turns (stateOf T (now (numbers .entry)) (now (flags .entry)) (now (marks .entry)) (now (carried .entry))) 1 (stateOf T (now (numbers .entry)) (now (flags .exit)) (now (marks .exit)) (now (carried .entry))) (now (order .entry)) (now (known .entry)) (now (known .exit))) ⌝ }
+    ensures { λ _. ⌜ Ranged (now (known .exit)) ⌝ }
+{
+    let t = order::at(order, p as usize);
+    let _ = deliver_at(plan, numbers, flags, marks, t, s);
+    search::after_deliver(plan, carried, known, t, s, p);
+}
+
+// What comes next, taken: one CLOSE, one DELIVER, or up to n CARRYs; the answer is how many steps.
+fn turn<'a, 'b>(
+    plan: &'a [u64; 3666],
+    order: &'a [u8; 128],
+    numbers: &'b mut [u32; 4224],
+    flags: &'b mut [bool; 3072],
+    marks: &'b mut [u8; 4096],
+    carried: &'b mut [u16; 2048],
+    known: &'b mut [u16; 209],
+    n: u32,
+) -> u32
+    requires { ⌜ ((T : Tables) × (Ready (stateOf T (now numbers) (now flags) (now marks) (now carried)) (now plan) × Knows T (lent (now numbers) (now flags) (now marks) (now carried)) (now order) (now known))) ⌝ }
+    requires { ⌜ Ranged (now known) × (0 < n) ⌝ }
+    ensures { λ r. ⌜ ((T : Tables) → Ready (stateOf T (now (numbers .entry)) (now (flags .entry)) (now (marks .entry)) (now (carried .entry))) (now (plan .entry)) → Turns (stateOf T (now (numbers .entry)) (now (flags .entry)) (now (marks .entry)) (now (carried .entry))) r (stateOf T (now (numbers .exit)) (now (flags .exit)) (now (marks .exit)) (now (carried .exit))) (now (order .entry)) (now (known .entry)) (now (known .exit))) ⌝ }
+    ensures { λ r. ⌜ Ranged (now (known .exit)) × (r ≤ n) ⌝ }
+{
+    let next = search::next_step(plan, order, numbers, flags, marks, carried, known);
+    let todo = next.0;
+    match todo {
+        Todo::Close { t, s } => {
+            close_next(
+                plan,
+                order,
+                numbers,
+                flags,
+                marks,
+                carried,
+                known,
+                wide(t),
+                wide(s),
+            );
+            1
+        }
+        Todo::Deliver(s) => {
+            deliver_next(
+                plan,
+                order,
+                numbers,
+                flags,
+                marks,
+                carried,
+                known,
+                wide(s),
+                next.1,
+            );
+            1
+        }
+        Todo::Carry { t, from: _, to: _ } => {
+            search::carry_on(
+                plan,
+                order,
+                numbers,
+                flags,
+                marks,
+                carried,
+                known,
+                wide(t),
+                n,
+            )
+        }
+        Todo::Nothing => 0,
+    }
+}
+
+// SETTLE; the answer is how many steps.
 fn take_settle<'a, 'b>(
     plan: &'a [u64; 3666],
     numbers: &'b mut [u32; 4224],
@@ -271,45 +383,29 @@ fn take_settle<'a, 'b>(
     requires { ⌜ Runs (now numbers) (now flags) (now marks) (now carried) (now plan) ⌝ }
     ensures { λ r. ⌜ ((T : Tables) → Ready (stateOf T (now (numbers .entry)) (now (flags .entry)) (now (marks .entry)) (now (carried .entry))) (now (plan .entry)) → (Answer.Settled r ≡ settleDone (stateOf T (now (numbers .entry)) (now (flags .entry)) (now (marks .entry)) (now (carried .entry))) .answer) × ((stateOf T (now (numbers .exit)) (now (flags .exit)) (now (marks .exit)) (now (carried .exit))) ≡ settleDone (stateOf T (now (numbers .entry)) (now (flags .entry)) (now (marks .entry)) (now (carried .entry))) .next)) ⌝ }
 {
-    let order = search::order_of(plan, numbers);
+    let order = order::order_of(plan, numbers);
     let mut known = search::first_known();
     let mut n: u32 = 0;
     while n < 34816 {
-        let next = search::next_step(plan, &order, numbers, flags, marks, carried, &mut known);
-        let todo = next.todo;
-        match todo {
-            Todo::Close { t, s } => {
-                let _ = close_at(plan, numbers, flags, marks, carried, wide(t), wide(s));
-                search::after_close(&order, flags, marks, &mut known, wide(s));
-                n += 1;
-            }
-            Todo::Deliver(s) => {
-                let at = next.at;
-                let t = search::at(&order, at as usize);
-                let _ = deliver_at(plan, numbers, flags, marks, t, wide(s));
-                search::after_deliver(plan, carried, &mut known, t, wide(s), at);
-                n += 1;
-            }
-            Todo::Carry { t, from: _, to: _ } => {
-                n += search::carry_on(
-                    plan,
-                    &order,
-                    numbers,
-                    flags,
-                    marks,
-                    carried,
-                    &mut known,
-                    wide(t),
-                    34816 - n,
-                );
-            }
-            Todo::Nothing => {
-                return n;
-            }
+        let k = turn(
+            plan,
+            &order,
+            numbers,
+            flags,
+            marks,
+            carried,
+            &mut known,
+            34816 - n,
+        );
+        if k == 0 {
+            return n;
         }
+        n += k;
     }
     n
 }
+
+// ---- any step
 
 pub fn take_in<'a, 'b>(
     plan: &'a [u64; 3666],
@@ -363,17 +459,6 @@ pub fn idle_after(idle: bool, answer: Answer) -> bool
         Answer::Read(_, _) => idle,
         _ => false,
     }
-}
-
-// The first value x of key k, where it is in the set m; else 0.
-fn held_value(m: u64, k: usize, x: u32) -> u32
-    requires { ⌜ k < 64 ⌝ }
-    ensures { λ r. ⌜ r ≡ cond (member m k) x 0 ⌝ }
-{
-    if keys::has_key(m, k as u8) {
-        return x;
-    }
-    0
 }
 
 impl State {
@@ -493,14 +578,7 @@ impl State {
         requires { ⌜ tables .groups ≤ 8 ⌝ }
         ensures { λ r. ⌜ r ≡ startOf tables ⌝ }
     {
-        let mut values = [0u32; 1024];
-        let mut j: usize = 0;
-        while j < 1024 {
-            let k = j % 64;
-            let m = tables::site_keys(&tables.sizes, &tables.masks, tables.groups, j / 64);
-            values[j] = held_value(m, k, tables.first[k]);
-            j += 1;
-        }
+        let values = tables.first_store();
         State {
             tables,
             versions: [Version(1); 1024],

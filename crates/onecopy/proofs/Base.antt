@@ -1,6 +1,6 @@
--- Small tools: two tests that agree, one number below another or not, an update at a point, and a sum of nothing.
+-- Small tools: one number below another or not, an update at a point, and a sum of nothing.
 -- Assumes nothing.
-use mathlib.Core.Path.{_≡_, refl, sym}
+use mathlib.Core.Path.{_≡_, refl}
 use mathlib.Core.Bool.{Bool, true, false, _&&_, cond}
 use mathlib.Core.Logic.{_⊎_, inl, inr}
 use Prim.Native.Nat.{ℕ, _≤_, _<_}
@@ -14,13 +14,6 @@ use Rattle.bounded.proofs.Laws.{sum-most}
 pub and-unit : (a : Bool) → (a && true) ≡ a
 and-unit true = refl
 and-unit false = refl
-
--- two tests that pass together are one
-pub iff-eq : (a b : Bool) → (a ≡ true → b ≡ true) → (b ≡ true → a ≡ true) → a ≡ b
-iff-eq true true f g = refl
-iff-eq true false f g = sym (f refl)
-iff-eq false true f g = g refl
-iff-eq false false f g = refl
 
 pub less : (a b : ℕ) → (a < b) ⊎ (b ≤ a)
 less a b = elim (bool (ltb a b)) [ inl h ↦ inl (ltb-true a b h) | inr h ↦ inr (ltb-false a b h) ]

@@ -8,11 +8,11 @@ use native.Mathlib.Omega.{arith}
 use lib.Dec.{eqb, ltb}
 use borrow.Author.Tests.{ltb-true, lt-ltb, eqb-true, eq-eqb, ne-eqb}
 use Rattle.bounded.specs.Bounded.{anyBelow}
-use Rattle.bounded.proofs.Truth.{and-true, bool, clash, same}
+use Rattle.bounded.proofs.Truth.{and-true, bool, clash, same, iff-eq}
 use Rattle.bounded.proofs.Laws.{any-put, any-get}
 use Rattle.onecopy.specs.Copy.{Table, bump, oneCopy}
 use Rattle.onecopy.specs.View.{View, there, committed, single}
-use Rattle.onecopy.proofs.Base.{and-unit, iff-eq, at2, at2-same, look2}
+use Rattle.onecopy.proofs.Base.{and-unit, at2, at2-same, look2}
 use Rattle.onecopy.proofs.Copy.{copy-ext, copy-at}
 use Rattle.onecopy.proofs.Inv.{Fit, Sealed, Site, Inv, closed-site, cast-site, one-place, committed-put, committed-get, top-low, stored, keep-origin}
 

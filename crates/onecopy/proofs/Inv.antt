@@ -6,11 +6,11 @@ use mathlib.Core.Logic.{inl, inr}
 use Prim.Native.Nat.{ℕ, suc, _≤_, _<_}
 use native.Mathlib.Omega.{arith}
 use borrow.Author.Tests.{eqb-true, eq-eqb, ne-eqb}
-use Rattle.bounded.proofs.Truth.{same}
+use Rattle.bounded.proofs.Truth.{same, iff-eq}
 use Rattle.bounded.proofs.Laws.{any-put, any-get}
 use Rattle.onecopy.specs.Copy.{Table, oneCopy}
 use Rattle.onecopy.specs.View.{View, there, committed, single}
-use Rattle.onecopy.proofs.Base.{iff-eq, less}
+use Rattle.onecopy.proofs.Base.{less}
 use Rattle.onecopy.proofs.Copy.{copy-ext, copy-gap}
 
 -- the tables fit: who holds a key that u writes is in R(u), and R(u) are sites

@@ -7,10 +7,10 @@ use mathlib.Core.Logic.{inl, inr}
 use mathlib.Core.List.{List}
 use borrow.Author.Tests.{eqb-true, eq-eqb}
 use Rattle.bounded.specs.Bounded.{anyBelow}
-use Rattle.bounded.proofs.Truth.{bool, and-true, and-put, or-true, or-left, or-right}
+use Rattle.bounded.proofs.Truth.{bool, and-true, and-put, or-true, or-left, or-right, iff-eq}
 use Rattle.bounded.proofs.Laws.{any-put, any-get, all-put, all-get}
 use Rattle.keys.specs.Keys.{member, meeting, including}
-use Rattle.keys.proofs.Laws.{both-ways, low}
+use Rattle.keys.proofs.Laws.{low}
 use Rattle.tables.specs.Lists.{rowAt, inRow, meets}
 use Rattle.tables.specs.Concern.{someIn, allIn}
 
@@ -43,14 +43,14 @@ module _ (a : ℕ) (row : List ℕ) (t n : ℕ) (width : a < 2 ^ 64) (same : (k 
   -- it meets m where one of the row is in m
   pub row-some : (m : ℕ) → meeting a m ≡ someIn row t n m
   unfolding meeting someIn
-  row-some m = both-ways (meeting a m) (someIn row t n m)
+  row-some m = iff-eq (meeting a m) (someIn row t n m)
       (λ q. let (k, l, p) = any-get 64 _ q in let (x, y) = and-true (member a k) (member m k) p in let (i, j, r) = from-row k x in any-put n _ i j (rw r y))
       (λ q. let (i, l, p) = any-get n _ q in any-put 64 _ (rowAt row t i) (under i l) (and-put _ _ (has i l) p))
 
   -- it is in m where all of the row are
   pub row-all : (m : ℕ) → including a m ≡ allIn row t n m
   unfolding allIn
-  row-all m = both-ways (including a m) (allIn row t n m)
+  row-all m = iff-eq (including a m) (allIn row t n m)
       (λ q. all-put n _ (λ i l. in-get a m q (rowAt row t i) (under i l) (has i l)))
       (λ q. in-put a m (λ k l x. let (i, j, r) = from-row k x in rw r at (all-get n _ q i j)))
 
@@ -65,7 +65,7 @@ module _ (a b u : ℕ) (union : (k : ℕ) → member u k ≡ (member a k || memb
   -- it meets m where one of them does
   pub union-some : meeting u m ≡ (meeting a m || meeting b m)
   unfolding meeting
-  union-some = both-ways (meeting u m) (meeting a m || meeting b m)
+  union-some = iff-eq (meeting u m) (meeting a m || meeting b m)
       (λ q. let (k, l, p) = any-get 64 _ q in
       let (x, y) = and-true (member u k) (member m k) p in
       elim (or-true (member a k) (member b k) (sym (union k) ∙ x)) [
@@ -83,7 +83,7 @@ module _ (a b u : ℕ) (union : (k : ℕ) → member u k ≡ (member a k || memb
 
   -- it is in m where both are
   pub union-all : including u m ≡ (including a m && including b m)
-  union-all = both-ways (including u m) (including a m && including b m)
+  union-all = iff-eq (including u m) (including a m && including b m)
       (λ q. and-put (including a m) (including b m)
       (in-put a m (λ k l x. in-get u m q k l (union k ∙ or-left (member a k) (member b k) x)))
       (in-put b m (λ k l x. in-get u m q k l (union k ∙ or-right (member a k) (member b k) x))))

@@ -1,28 +1,20 @@
--- Numbers of any width; rows; a tag past the table has no rule; where a record lies; a turn of the cut moves on.
+-- Numbers of any width; rows; a tag past the table has no rule; where a record lies.
 -- Assumes nothing.
-use Prim.Native.Nat.{ℕ, _+_, _-_, _*_, _^_, _<_, _≤_}
+use Prim.Native.Nat.{ℕ, _+_, _*_, _^_, _<_, _≤_}
 use mathlib.Core.Bool.{Bool, true, false, cond}
-use mathlib.Core.List.{List, [], _∷_}
+use mathlib.Core.List.{List}
 use mathlib.Core.Path.{_≡_, refl}
-use mathlib.Core.Logic.{inl, inr}
 use native.Mathlib.Omega.{arith}
 use native.Mathlib.Nat.{mul-suc, mul-le-mul-left, add-zero, zero-add}
 use native.Mathlib.Numerals.{add-one}
 use lib.Dec.{eqb, leb}
 use lib.ListN.{length, getD, set}
 use lib.Pow.{pow-add, pow-mono}
-use types.Run.{OneOf}
-use denote.Enum.Declared.{tagOf}
 use borrow.Author.Tests.{ne-eqb, leb-true}
-use Rattle.records.specs.Number.{number}
-use Rattle.records.specs.Rows.{row}
+use Rattle.records.specs.Number.{number, row}
 use Rattle.records.specs.Rule.{ruleOf, none}
 use Rattle.records.specs.Record.{recordAt, lengthAt}
-use Rattle.records.specs.Walk.{go, stop}
-use Rattle.records.specs.Cut.{cutBy, cutTurn}
-use Rattle.records.specs.declared.Record.{Record}
 use Rattle.records.specs.declared.Record.the-variants.{Whole, Short, Cut}
-use Rattle.records.proofs.Record as R
 
 pub number-up : (s : List ℕ) (at i : ℕ) → number s at (i + 1) ≡ number s at i * 256 + getD s (at + i) 0
 unfolding number
@@ -98,23 +90,3 @@ whole-lies {s} {at} {tag} {start} {len} {next} = by (leb (at + 3) (length s)) (l
         record { starts = omega arith; ends = omega arith; within = omega (arith, leb-true (at + 3 + lengthAt s at) (length s) e) }
     by true false e h = absurd (apart (cc))
     by false q e h = absurd (apart (cc))
-
--- each turn of the cut that goes on leaves less of the file
-pub cut-falls : (s : List ℕ) (at next : ℕ) → cutTurn s at ≡ go next → length s - next < length s - at
-unfolding cutTurn
-cut-falls s at next = by (recordAt s at) refl
-  where
-    tagged : (b : Bool) (start len end : ℕ) → Lies s at start len end → cond b (stop end) (go end) ≡ go next → length s - next < length s - at
-    tagged true start len end l h = absurd (apart (cc))
-    tagged false start len end l h = let e : end ≡ next = cc in omega (arith, l)
-
-    by : (r : Record) → recordAt s at ≡ r → cutBy (length s) r ≡ go next → length s - next < length s - at
-    by (Whole tag start len end) e h = tagged (eqb tag 0x0F) start len end (whole-lies e) h
-    by (Short tag) e h = absurd (apart (cc))
-    by Cut e h = absurd (apart (cc))
-
--- the else branch of `let Record::Whole { .. }`
-pub other-stops : (n : ℕ) (r : Record) → OneOf (1 ∷ 2 ∷ []) (tagOf R.the-type r) → cutBy n r ≡ stop n
-other-stops n (Whole tag start len end) h = absurd (elim h [ inl e ↦ omega arith | inr e ↦ omega arith ])
-other-stops n (Short tag) h = refl
-other-stops n Cut h = refl

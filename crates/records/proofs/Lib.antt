@@ -1,10 +1,3 @@
 pub mod Table
-pub mod Walk
 pub mod Laws
-pub mod Fine
-pub mod Turns
-pub mod Txn
-pub mod Falls
-pub mod Agrees
-pub mod Numbers
-pub mod Within
+pub mod Good

@@ -1,10 +1,4 @@
 pub mod Number
 pub mod Record
 pub mod Rule
-pub mod Walk
-pub mod Cut
 pub mod Judge
-pub mod Rows
-pub mod Setup
-pub mod Schedule
-pub mod File

@@ -1,7 +1,7 @@
 -- The length rule of each tag.
 use Prim.Native.Nat.{ℕ, _+_, _*_, _%_}
 use mathlib.Core.Bool.{Bool, false, _&&_, cond}
-use mathlib.Core.List.{List, [], _∷_}
+use mathlib.Core.List.{List}
 use lib.ListN.{getD}
 use lib.Dec.{leb, eqb}
 

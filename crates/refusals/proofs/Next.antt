@@ -5,12 +5,11 @@ use mathlib.Core.Path.{_≡_}
 use mathlib.Core.Bool.{Bool, false}
 use mathlib.Core.List.{List}
 use mathlib.Core.Logic.{inl, inr}
+use Rattle.queues.specs.Queue.{waits, nextIn, nextOf}
+use Rattle.layout.specs.Cells.{placeIn, cell, nobody}
 use Rattle.bounded.proofs.Laws.{first-is}
 use Rattle.tables.specs.Concern.{concerns}
 use Rattle.tables.specs.declared.Tables.{Tables}
-use Rattle.rules.specs.Cells.{placeIn, cell, nobody}
-use Rattle.rules.specs.Queue.{waits, nextIn}
-use Rattle.rules.specs.Asked.{nextOf}
 use Rattle.steps.specs.declared.Place.{Place}
 
 pub next-low : (T : Tables) (places : List Place) (delivered : List Bool) (s : ℕ) → T .txns ≤ 128

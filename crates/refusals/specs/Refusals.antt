@@ -3,15 +3,15 @@ use Prim.Native.Nat.{ℕ}
 use mathlib.Core.Bool.{Bool, false, _&&_, _||_, not, cond}
 use mathlib.Core.List.{List}
 use lib.Dec.{eqb, leb, ltb}
+use Rattle.queues.specs.Queue.{headIn, nextOf, blockedOf}
+use Rattle.layout.specs.Cells.{placeIn, cell, nobody, recordedIn}
 use Rattle.bounded.specs.Bounded.{allBelow}
 use Rattle.tables.specs.Lists.{readCount, readKey}
 use Rattle.tables.specs.Sites.{siteCount, holds}
 use Rattle.tables.specs.Concern.{concerns, local}
 use Rattle.tables.specs.declared.Tables.{Tables}
-use Rattle.rules.specs.Cells.{placeIn, cell, nobody}
-use Rattle.rules.specs.Queue.{headIn}
-use Rattle.rules.specs.Votes.{recordedIn, holdsVote}
-use Rattle.rules.specs.Asked.{nextOf, blockedOf, verdictAt, roomOf}
+use Rattle.rules.specs.Votes.{holdsVote}
+use Rattle.rules.specs.Asked.{verdictAt, roomOf}
 use Rattle.steps.specs.declared.Place.{Place}
 use Rattle.steps.specs.declared.Version.{Version}
 

@@ -72,11 +72,11 @@ pub fn deliver_refusal<'a>(
     if plan::sites(plan) <= site {
         return 21;
     }
-    let t = rules::next_at(plan, numbers, flags, site);
+    let t = queues::next_at(plan, numbers, flags, site);
     if t == 128 {
         return 26;
     }
-    if rules::is_blocked(plan, flags, marks, wide(t), site) {
+    if queues::is_blocked(plan, flags, marks, wide(t), site) {
         return 27;
     }
     0
@@ -162,7 +162,7 @@ fn verdict_refusal<'a>(
         return 30;
     }
     if v == 1 {
-        if rules::is_at_head(plan, numbers, flags, marks, t, s) {
+        if queues::is_at_head(plan, numbers, flags, marks, t, s) {
             if rules::has_room(plan, numbers, t, s) {
                 return 0;
             }

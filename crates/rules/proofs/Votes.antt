@@ -8,6 +8,7 @@ use mathlib.Core.Logic.{inl, inr}
 use native.Mathlib.Omega.{arith}
 use lib.Dec.{eqb, ltb}
 use borrow.Author.Tests.{eq-eqb, ne-eqb, lt-ltb, ltb-true}
+use Rattle.layout.specs.Cells.{cell}
 use Rattle.bounded.specs.Bounded.{allBelow}
 use Rattle.bounded.proofs.Laws.{any-get, any-put}
 use Rattle.bounded.proofs.Truth.{and-true, and-put, bool, clash, same}
@@ -16,7 +17,6 @@ use Rattle.keys.proofs.Laws.{low, adding-same, adding-other}
 use Rattle.tables.specs.Sites.{siteCount, siteKeys}
 use Rattle.tables.specs.declared.Tables.{Tables}
 use Rattle.plan.specs.Plan.{holdersOf, Plan}
-use Rattle.rules.specs.Cells.{cell}
 use Rattle.rules.specs.Votes.{holdsVote, coversKey, allYesIn}
 
 -- h is the set of the sites whose votes s holds

@@ -2,22 +2,13 @@
 use Prim.Native.Nat.{ℕ}
 use mathlib.Core.Bool.{Bool, cond}
 use mathlib.Core.List.{List}
+use Rattle.layout.specs.Cells.{cell}
 use Rattle.tables.specs.Lists.{readCount, writeCount}
 use Rattle.tables.specs.Sites.{siteCount, siteKeys}
 use Rattle.tables.specs.Concern.{votes}
 use Rattle.tables.specs.declared.Tables.{Tables}
-use Rattle.rules.specs.Cells.{cell}
-use Rattle.rules.specs.Queue.{blockedIn, nextIn}
 use Rattle.rules.specs.Votes.{certifyIn, coveredIn, allYesIn, verdictBy, roomIn}
-use Rattle.steps.specs.declared.Place.{Place}
 use Rattle.steps.specs.declared.Version.{Version}
-
--- the next to deliver at s, and whether t conflicts with one in the queue there
-abbrev pub nextOf : Tables → List Place → List Bool → ℕ → ℕ
-nextOf T places delivered s = nextIn places delivered (T .reads) (T .nreads) (T .writes) (T .nwrites) (T .txns) (siteKeys T s) s
-
-abbrev pub blockedOf : Tables → List Bool → List ℕ → ℕ → ℕ → Bool
-blockedOf T delivered closed t s = blockedIn delivered closed (T .reads) (T .nreads) (T .writes) (T .nwrites) (T .txns) t s
 
 -- what s casts on t: 1 yes, 2 no, if it is in V(t); else 0, none
 abbrev pub voteIn : Tables → List Version → List Version → List Bool → ℕ → ℕ → ℕ

@@ -4,10 +4,10 @@ use mathlib.Core.Bool.{Bool, _&&_, not}
 use mathlib.Core.List.{List}
 use lib.Dec.{leb}
 use lib.ListN.{getD}
+use Rattle.layout.specs.Cells.{placeIn}
 use Rattle.bounded.specs.Bounded.{allBelow}
 use Rattle.tables.specs.Lists.{present, twice}
 use Rattle.tables.specs.Sites.{sitesIn}
-use Rattle.rules.specs.Cells.{placeIn}
 use Rattle.steps.specs.declared.Place.{Place}
 
 -- no count over its limit

@@ -1,20 +1,16 @@
 -- Certification at a site, the votes that a site holds, and the verdict.
 use Prim.Native.Nat.{ℕ, _+_, _*_}
-use mathlib.Core.Bool.{Bool, false, _&&_, _||_, not, cond}
+use mathlib.Core.Bool.{Bool, _&&_, _||_, not, cond}
 use mathlib.Core.List.{List}
 use lib.Dec.{eqb, ltb}
 use lib.ListN.{getD}
+use Rattle.layout.specs.Cells.{cell, versionIn, recordedIn}
 use Rattle.bounded.specs.Bounded.{anyBelow, allBelow}
 use Rattle.keys.specs.Keys.{member}
 use Rattle.tables.specs.Lists.{rowAt}
 use Rattle.tables.specs.Sites.{keysFrom}
 use Rattle.steps.specs.Kinds.{version}
-use Rattle.rules.specs.Cells.{cell, versionIn}
 use Rattle.steps.specs.declared.Version.{Version}
-
--- t's i-th read was recorded
-abbrev pub recordedIn : List Bool → ℕ → ℕ → Bool
-recordedIn recorded t i = getD recorded (t * 8 + i) false
 
 -- t's i-th read has the recorded version at s; a read never recorded doesn't match
 abbrev pub current : List Version → List Version → List Bool → List ℕ → ℕ → ℕ → ℕ → Bool

@@ -1,40 +1,36 @@
 -- Searches for a DELIVER and a CARRY by positions of the order, given what is known, and what is known once they have looked.
 -- Assumes nothing.
-use Prim.Native.Nat.{ℕ, suc, _+_, _-_, _≤_, _<_}
+use Prim.Native.Nat.{ℕ, _+_, _-_, _≤_, _<_}
 use mathlib.Core.Path.{_≡_, refl, sym, ap, subst, _∙_}
 use mathlib.Core.Bool.{Bool, true, false, _&&_, not, cond}
 use mathlib.Core.List.{List}
 use mathlib.Core.Logic.{inl, inr}
 use native.Mathlib.Omega.{arith}
 use lib.Dec.{eqb, ltb}
-use lib.ListN.{length, getD, set, List·getD-eq-default}
-use lib.Seq.{getD-set-same, getD-set-other}
-use borrow.Author.Tests.{eq-eqb, ne-eqb, lt-leb, le-ltb, lt-ltb, ltb-true, ltb-false}
+use lib.ListN.{length, getD, set}
+use borrow.Author.Tests.{ne-eqb, lt-leb, le-ltb, lt-ltb, ltb-true, ltb-false}
+use Rattle.queues.specs.Queue.{nextIn, nextOf, blockedOf}
+use Rattle.order.specs.Order.{Ordered, waitsIn, waitsAt, queuedAt}
+use Rattle.order.proofs.Order.{order-first, order-none, rank-below}
 use Rattle.bounded.specs.Bounded.{leastBelow}
 use Rattle.bounded.proofs.Truth.{bool, clash, same}
-use Rattle.bounded.proofs.Laws.{sum-less, sum-most}
 use Rattle.keys.specs.Keys.{member}
 use Rattle.tables.specs.Sites.{siteCount}
 use Rattle.tables.specs.Concern.{concerns, local}
 use Rattle.tables.specs.Fits.{Fits}
 use Rattle.tables.specs.declared.Tables.{Tables}
-use Rattle.layout.specs.Layout.{thePlaces}
-use Rattle.layout.proofs.Laws.{portion-length, portion-at, portion-other}
-use Rattle.rules.specs.Cells.{placeIn, cell, nobody}
-use Rattle.rules.specs.Queue.{queuedIn, precedes, nextIn}
-use Rattle.rules.specs.Asked.{nextOf, blockedOf}
-use Rattle.steps.specs.Kinds.{place}
+use Rattle.layout.proofs.Laws.{portion-other}
+use Rattle.layout.specs.Cells.{cell, nobody}
 use Rattle.steps.specs.declared.Place.{Place}
 use Rattle.refusals.specs.Refusals.{deliverRefusalIn, voteRefusalIn, carryRefusalIn}
 use Rattle.search.specs.Search.{Parts, nowhere, firstFromIn, firstCarriedIn}
 use Rattle.search.specs.declared.Todo.{Todo}
 use Rattle.search.specs.declared.Todo.the-variants.{Close, Deliver, Carry, Nothing}
-use Rattle.search.specs.Order.{rankOf, Ordered}
-use Rattle.search.specs.Known.{PassedTo, firstPair, stuckIn, passedIn, nextAt, lowAt, topAt, openAt, waitsIn, Knows}
+use Rattle.search.specs.Known.{PassedTo, firstPair, passedIn, nextAt, lowAt, topAt, openAt, Knows}
 use Rattle.search.proofs.Frames.{Carries, carry-has}
 use Rattle.search.proofs.Pair.{pair-passed, pair-none, pair-from, from-pair}
-use Rattle.search.proofs.Order.{order-first, order-none}
-use Rattle.search.proofs.Stored.{knows-next, knows-low, knows-top, knows-passed, knows-open}
+use Rattle.search.proofs.Entries.{passed-is, put-same, put-other}
+use Rattle.search.proofs.Stored.{knows-next, knows-moved, knows-top, knows-passed, knows-open}
 
 -- ---- positions
 
@@ -42,74 +38,39 @@ use Rattle.search.proofs.Stored.{knows-next, knows-low, knows-top, know
 up-to : (P : ℕ → Type 0) (a b : ℕ) → ((i : ℕ) → i < a → P i) → ((i : ℕ) → a ≤ i → i < b → P i) → (i : ℕ) → i < b → P i
 up-to P a b f g i h = elim (bool (ltb i a)) [ inl e ↦ f i (ltb-true i a e) | inr e ↦ g i (ltb-false i a e) h ]
 
--- a rank is below the number of transactions
-rank-low : (places : List Place) (n t : ℕ) → t < n → rankOf places n t < n
-unfolding rankOf
-rank-low places n t l = omega (arith, sum-less n t f g l (λ i m d. rw (ne-eqb i t d)) here, sum-most n 1 g (λ i m. most (eqb i t) (precedes i (placeIn places i) t (placeIn places t))))
-  where
-    f : ℕ → ℕ
-    f i = cond (precedes i (placeIn places i) t (placeIn places t)) 1 0
-
-    g : ℕ → ℕ
-    g i = cond (eqb i t) 1 (f i)
-
-    most : (a b : Bool) → cond a 1 (cond b 1 0) ≤ 1
-    most true b = omega arith
-    most false true = omega arith
-    most false false = omega arith
-
-    here : suc (f t) ≡ g t
-    here = let p = placeIn places t in rw (eq-eqb t t refl, le-ltb p p (omega arith), eq-eqb p p refl, le-ltb t t (omega arith))
-
--- so there are no more than 128 positions
+-- there are no more than 128 positions
 within-order : (places : List Place) (n : ℕ) (order : List ℕ) → n ≤ nobody → Ordered places n order → (i : ℕ) → getD order i nobody < nobody → i < 128
-within-order places n order fits o i h = omega (arith, fits, o .is i h .1, rank-low places n (getD order i nobody) (o .is i h .0))
+within-order places n order fits o i h = omega (arith, fits, o .is i h .1, rank-below places n (getD order i nobody) (o .is i h .0))
 
 -- ---- entries of what is known
 
--- the one stored, and the others
-pub at-same : (l k : List ℕ) (i v : ℕ) → k ≡ set l i v → i < length l → getD k i 0 ≡ v
-at-same l k i v e h = rw e (getD-set-same l i v 0 h)
-
-at-other : (l k : List ℕ) (i j v : ℕ) → k ≡ set l i v → (j ≡ i → ⊥) → getD k j 0 ≡ getD l j 0
-at-other l k i j v e d = rw e (getD-set-other l i j v 0 d)
-
--- how many pairs t has passed
-pub passed-is : (l : List ℕ) (t : ℕ) → t < nobody → getD (passedIn l) t 0 ≡ getD l (80 + t) 0
-passed-is l t h = portion-at 0 (λ p. p) l 80 128 t 0 h
-
--- s is stuck
-pub stuck-is : (l : List ℕ) (s : ℕ) → s < 16 → getD l (16 + s) 0 ≡ 1 → getD (stuckIn l) s false ≡ true
-stuck-is l s h e = portion-at 0 (λ x. eqb x 1) l 16 16 s false h ∙ eq-eqb (getD l (16 + s) 0) 1 e
-
 -- the three positions of s, stored one after the other
-pub three-kept : (l m n k : List ℕ) (s a b d : ℕ) → m ≡ set l (32 + s) a → 32 + s < length l → n ≡ set m (48 + s) b → 48 + s < length m → k ≡ set n (64 + s) d → 64 + s < length n
+pub three-kept : (l m n k : List ℕ) (s a b d : ℕ) → (m ≡ set l (32 + s) a) × (32 + s < length l) → (n ≡ set m (48 + s) b) × (48 + s < length m) → (k ≡ set n (64 + s) d) × (64 + s < length n)
     → (nextAt k s ≡ a) × (lowAt k s ≡ b) × (topAt k s ≡ d)
-three-kept l m n k s a b d p x q y r z = (
-  at-other n k (64 + s) (32 + s) d r (λ e. absurd (omega arith)) ∙ at-other m n (48 + s) (32 + s) b q (λ e. absurd (omega arith)) ∙ at-same l m (32 + s) a p x,
-  at-other n k (64 + s) (48 + s) d r (λ e. absurd (omega arith)) ∙ at-same m n (48 + s) b q y,
-  at-same n k (64 + s) d r z,
+three-kept l m n k s a b d p q r = (
+  put-other n k (64 + s) d r (32 + s) (λ e. absurd (omega arith)) ∙ put-other m n (48 + s) b q (32 + s) (λ e. absurd (omega arith)) ∙ put-same l m (32 + s) a p,
+  put-other n k (64 + s) d r (48 + s) (λ e. absurd (omega arith)) ∙ put-same m n (48 + s) b q,
+  put-same n k (64 + s) d r,
 )
 
 -- ---- DELIVER
 
 module _ (T : Tables) (w : Parts) (order l : List ℕ) (g : Knows T w order l) (s v : ℕ) (low : s < 16) where
   -- none before v waits at s, if none does from the position on that was stored last
-  pub waits-to : ((i : ℕ) → nextAt l s ≤ i → i < v → waitsIn T w s (getD order i nobody) ≡ false) → (i : ℕ) → i < v → waitsIn T w s (getD order i nobody) ≡ false
-  waits-to f = up-to (λ i. waitsIn T w s (getD order i nobody) ≡ false) (nextAt l s) v (λ i h. g .next s i low h) f
+  pub waits-to : ((i : ℕ) → nextAt l s ≤ i → i < v → waitsAt T (w .places) (w .delivered) order s i ≡ false) → (i : ℕ) → i < v → waitsAt T (w .places) (w .delivered) order s i ≡ false
+  waits-to f = up-to (λ i. waitsAt T (w .places) (w .delivered) order s i ≡ false) (nextAt l s) v (λ i h. g .next s i low h) f
 
   -- that position stored
-  pub knows-waiting : (k : List ℕ) → k ≡ set l (32 + s) v → 32 + s < length l → ((i : ℕ) → nextAt l s ≤ i → i < v → waitsIn T w s (getD order i nobody) ≡ false) → Knows T w order k
+  pub knows-waiting : (k : List ℕ) → k ≡ set l (32 + s) v → 32 + s < length l → ((i : ℕ) → nextAt l s ≤ i → i < v → waitsAt T (w .places) (w .delivered) order s i ≡ false) → Knows T w order k
   knows-waiting k e h f = subst (λ k. Knows T w order k) (sym e) (knows-next T w order l g s v low h (waits-to f))
 
   -- the first in the queue of s
-  pub knows-headed : (k : List ℕ) → k ≡ set l (48 + s) v → 48 + s < length l → ((i : ℕ) → lowAt l s ≤ i → i < v → queuedIn (w .delivered) (w .closed) s (getD order i nobody) ≡ false) → Knows T w order k
-  knows-headed k e h f = subst (λ k. Knows T w order k) (sym e) (knows-low T w order l g s v low h
-      (up-to (λ i. queuedIn (w .delivered) (w .closed) s (getD order i nobody) ≡ false) (lowAt l s) v (λ i q. g .low s i low q) f))
+  pub knows-headed : (k : List ℕ) → k ≡ set l (48 + s) v → 48 + s < length l → ((i : ℕ) → lowAt l s ≤ i → i < v → queuedAt (w .delivered) (w .closed) order s i ≡ false) → Knows T w order k
+  knows-headed k e h f = subst (λ k. Knows T w order k) (sym e) (knows-moved T w order l g s low v f h)
 
   -- the last
   pub knows-ended : (k : List ℕ) → k ≡ set l (64 + s) v → 64 + s < length l
-      → ((i : ℕ) → v ≤ i → i < topAt l s → lowAt l s ≤ i → queuedIn (w .delivered) (w .closed) s (getD order i nobody) ≡ false) → Knows T w order k
+      → ((i : ℕ) → v ≤ i → i < topAt l s → lowAt l s ≤ i → queuedAt (w .delivered) (w .closed) order s i ≡ false) → Knows T w order k
   knows-ended k e h f = subst (λ k. Knows T w order k) (sym e) (knows-top T w order l g s v low h (λ i q. elim (bool (ltb i (lowAt l s))) [
     | inl a ↦ g .low s i low (ltb-true i (lowAt l s) a)
     | inr a ↦ elim (bool (ltb i (topAt l s))) [
@@ -118,23 +79,17 @@ module _ (T : Tables) (w : Parts) (order l : List ℕ) (g : Knows T w order l) (
     ]
   ]))
 
--- who is no transaction does not wait
-pub none-waits : (T : Tables) (w : Parts) (numbers : List ℕ) (s t : ℕ) → w .places ≡ thePlaces numbers → nobody ≤ t → waitsIn T w s t ≡ false
-none-waits T w numbers s t e h =
-    let z : placeIn (w .places) t ≡ 0 = rw e (ap (λ (p : Place). p .0) (List·getD-eq-default (thePlaces numbers) (place 0) (omega (arith, h, portion-length 0 place numbers 4096 128)))) in
-    rw z
-
 module _ (T : Tables) (fits : Fits T) (w : Parts) (order : List ℕ) (o : Ordered (w .places) (T .txns) order) (s : ℕ) where
   -- the first position that waits has the next to deliver
-  pub next-found : (i : ℕ) → ((j : ℕ) → j < i → waitsIn T w s (getD order j nobody) ≡ false) → getD order i nobody < nobody → waitsIn T w s (getD order i nobody) ≡ true
+  pub next-found : (i : ℕ) → ((j : ℕ) → j < i → waitsAt T (w .places) (w .delivered) order s j ≡ false) → getD order i nobody < nobody → waitsAt T (w .places) (w .delivered) order s i ≡ true
       → nextOf T (w .places) (w .delivered) s ≡ getD order i nobody
   unfolding nextIn
-  next-found i f l h = order-first (w .places) (T .txns) order (fits .txns) o (λ t. waitsIn T w s t) i (λ j b _. f j b) l h
+  next-found i f l h = order-first (w .places) (T .txns) order (fits .txns) o (waitsIn T (w .places) (w .delivered) s) i (λ j b _. f j b) l h
 
   -- where none waits, there is none
-  pub next-none : ((j : ℕ) → j < 128 → waitsIn T w s (getD order j nobody) ≡ false) → nextOf T (w .places) (w .delivered) s ≡ nobody
+  pub next-none : ((j : ℕ) → j < 128 → waitsAt T (w .places) (w .delivered) order s j ≡ false) → nextOf T (w .places) (w .delivered) s ≡ nobody
   unfolding nextIn
-  next-none f = order-none (w .places) (T .txns) order (fits .txns) o (λ t. waitsIn T w s t) (λ j l. f j (within-order (w .places) (T .txns) order (fits .txns) o j l))
+  next-none f = order-none (w .places) (T .txns) order (fits .txns) o (waitsIn T (w .places) (w .delivered) s) (λ j l. f j (within-order (w .places) (T .txns) order (fits .txns) o j l))
 
 module _ (T : Tables) (w : Parts) (s : ℕ) (l : s < siteCount T) where
   -- it can be delivered unless it is blocked
@@ -270,11 +225,11 @@ tries order l = (128 - openAt l) + cond (ltb (getD l (80 + getD order (openAt l)
 
 -- fewer, once the pairs of the first that has some left are all tried
 pub tries-less : (order l m k : List ℕ) (i t pair : ℕ) → openAt l ≤ i → i < 128 → t ≡ getD order i nobody → t < nobody → getD (passedIn l) (getD order i nobody) 0 < 256
-    → m ≡ set l 208 i → 208 < length l → k ≡ set m (80 + t) pair → 80 + t < length m → 256 ≤ pair
+    → (m ≡ set l 208 i) × (208 < length l) → (k ≡ set m (80 + t) pair) × (80 + t < length m) → 256 ≤ pair
     → tries order k < tries order l
-tries-less order l m k i t pair a b e low h p n q r u =
-    let x : openAt k ≡ i = at-other m k (80 + t) 208 pair q (λ z. absurd (omega arith)) ∙ at-same l m 208 i p n in
-    let y : getD k (80 + t) 0 ≡ pair = at-same m k (80 + t) pair q r in
+tries-less order l m k i t pair a b e low h p q u =
+    let x : openAt k ≡ i = put-other m k (80 + t) pair q 208 (λ z. absurd (omega arith)) ∙ put-same l m 208 i p in
+    let y : getD k (80 + t) 0 ≡ pair = put-same m k (80 + t) pair q in
     let g : getD l (80 + t) 0 < 256 = rw (← passed-is l t low, e) h in
     elim (same (openAt l) i) [
       | inl d ↦ rw (x, d, ← e, y, le-ltb pair 256 u, lt-ltb (getD l (80 + t) 0) 256 g) (omega arith)

@@ -1,14 +1,18 @@
 -- What can be closed at a site, where the transactions in its queue stand between two positions of the order.
 -- Assumes nothing.
 use Prim.Native.Nat.{ℕ, _+_, _*_, _/_, _%_, _≤_, _<_}
-use mathlib.Core.Path.{_≡_, refl, sym, ap, _∙_}
+use mathlib.Core.Path.{_≡_, refl, sym, _∙_}
 use mathlib.Core.Bool.{Bool, true, false, _&&_, not, cond}
 use mathlib.Core.List.{List}
 use mathlib.Core.Logic.{inl, inr}
 use native.Mathlib.Omega.{arith}
 use lib.Dec.{eqb, ltb}
-use lib.ListN.{length, getD, set, List·getD-eq-default}
+use lib.ListN.{length, getD, set}
 use borrow.Author.Tests.{eq-eqb, ne-eqb, eqb-true, lt-leb, lt-ltb, ltb-true, ltb-false}
+use Rattle.queues.specs.Queue.{queuedIn}
+use Rattle.order.specs.Order.{Ordered, queuedAt}
+use Rattle.order.proofs.Order.{order-first, order-none, head-first}
+use Rattle.order.proofs.Positions.{head-is}
 use Rattle.bounded.specs.Bounded.{firstBelow, leastBelow}
 use Rattle.bounded.proofs.Truth.{and-true, and-put, bool, clash, same}
 use Rattle.bounded.proofs.Laws.{least-stop}
@@ -17,23 +21,16 @@ use Rattle.tables.specs.Concern.{concerns}
 use Rattle.tables.specs.Fits.{Fits}
 use Rattle.tables.specs.declared.Tables.{Tables}
 use Rattle.plan.specs.Plan.{txnsOf, Plan}
-use Rattle.layout.specs.Layout.{theVersions, thePlaces, theDelivered, theClosed, theCast}
-use Rattle.layout.proofs.Laws.{portion-at, portion-length}
-use Rattle.rules.specs.Cells.{placeIn, cell, nobody}
-use Rattle.rules.specs.Queue.{queuedIn}
+use Rattle.layout.specs.Layout.{thePlaces, theDelivered}
+use Rattle.layout.proofs.Laws.{portion-length}
+use Rattle.layout.specs.Cells.{placeIn, cell, nobody}
 use Rattle.rules.specs.Asked.{verdictAt, roomOf}
 use Rattle.refusals.specs.Refusals.{verdictRefusalIn, closeRefusalIn}
-use Rattle.search.specs.Search.{Parts, parts, closing, nowhere, closesFirstIn, firstClosingIn}
-use Rattle.search.specs.Order.{Ordered}
-use Rattle.search.specs.Known.{any, KnowsAt, codesIn, lowAt, Knows}
+use Rattle.search.specs.Search.{Parts, closing, nowhere, closesFirstIn, firstClosingIn}
+use Rattle.search.specs.Known.{any, KnowsAt, Knows}
 use Rattle.search.proofs.Frames.{close-has}
 use Rattle.search.proofs.Tried.{code-shut, none-closes}
-use Rattle.search.proofs.Order.{order-first, order-none, head-first}
-use Rattle.search.proofs.Stored.{knows-code, knows-low}
-
--- the parts that are lent
-abbrev pub lent : List ℕ → List Bool → List ℕ → List ℕ → Parts
-lent numbers flags marks carried = parts (theVersions numbers) (thePlaces numbers) (theDelivered flags) (theClosed marks) (theCast marks) carried
+use Rattle.search.proofs.Stored.{knows-code}
 
 -- ---- one transaction
 
@@ -69,18 +66,11 @@ by-verdict T w t s v head fits l k concerned queued e f =
       | inr d ↦ elim (same v 1) [ inl e ↦ rw e (commit head room) | inr o ↦ rw (ne-eqb v 0 d, ne-eqb v 1 o) ]
     ]
 
--- past the last transaction nothing is in a queue
-queued-low : (flags : List Bool) (closed : List ℕ) (s t : ℕ) → queuedIn (theDelivered flags) closed s t ≡ true → t < nobody
-queued-low flags closed s t h = elim (bool (ltb t nobody)) [
-  | inl e ↦ ltb-true t nobody e
-  | inr e ↦ clash (and-true _ _ h .0) (List·getD-eq-default (theDelivered flags) false (omega (arith, ltb-false t nobody e, portion-length false (λ x. x) flags 1024 2048)))
-]
-
 -- ---- the transactions of a queue between the positions p and q of the order
 
 module _ (T : Tables) (w : Parts) (order : List ℕ) (s p q : ℕ) (fits : T .txns ≤ nobody) (o : Ordered (w .places) (T .txns) order)
-    (below : (i : ℕ) → i < p → queuedIn (w .delivered) (w .closed) s (getD order i nobody) ≡ false)
-    (above : (i : ℕ) → q ≤ i → queuedIn (w .delivered) (w .closed) s (getD order i nobody) ≡ false) where
+    (below : (i : ℕ) → i < p → queuedAt (w .delivered) (w .closed) order s i ≡ false)
+    (above : (i : ℕ) → q ≤ i → queuedAt (w .delivered) (w .closed) order s i ≡ false) where
   -- none that stands before i can be closed, where those from p on were tried
   tried : (i : ℕ) → ((j : ℕ) → p ≤ j → j < i → getD order j nobody < nobody → eqb (closing T w (getD order j nobody) s) 0 ≡ false)
       → (j : ℕ) → j < i → getD order j nobody < nobody → eqb (closing T w (getD order j nobody) s) 0 ≡ false
@@ -105,23 +95,13 @@ module _ (T : Tables) (w : Parts) (order : List ℕ) (s p q : ℕ) (fits : T .tx
 
 -- the head of the queue stands at p
 pub head-stands : (T : Tables) (plan numbers : List ℕ) (flags : List Bool) (closed order : List ℕ) (s p q head : ℕ) → Plan T plan → Ordered (thePlaces numbers) (txnsOf plan) order
-    → ((i : ℕ) → i < p → queuedIn (theDelivered flags) closed s (getD order i nobody) ≡ false)
-    → ((i : ℕ) → q ≤ i → queuedIn (theDelivered flags) closed s (getD order i nobody) ≡ false)
-    → (p < q → queuedIn (theDelivered flags) closed s (getD order p nobody) ≡ true)
+    → ((i : ℕ) → i < p → queuedAt (theDelivered flags) closed order s i ≡ false)
+    → ((i : ℕ) → q ≤ i → queuedAt (theDelivered flags) closed order s i ≡ false)
+    → (p < q → queuedAt (theDelivered flags) closed order s p ≡ true)
     → head ≡ cond (ltb p q) (getD order p nobody) nobody
     → head ≡ firstBelow (T .txns) (placeIn (thePlaces numbers)) (queuedIn (theDelivered flags) closed s) nobody
-head-stands T plan numbers flags closed order s p q head planned o below above starts at = rw at (elim (bool (ltb p q)) [
-  | inl e ↦
-      let h = starts (ltb-true p q e) in
-      rw e (sym (order-first (thePlaces numbers) (T .txns) order (planned .fits .txns) ordered (queuedIn (theDelivered flags) closed s) p (λ j l _. below j l) (queued-low flags closed s (getD order p nobody) h) h))
-  | inr e ↦ rw e (sym (order-none (thePlaces numbers) (T .txns) order (planned .fits .txns) ordered (queuedIn (theDelivered flags) closed s) (λ j _. elim (bool (ltb j q)) [
-    | inl l ↦ below j (omega (arith, ltb-true j q l, ltb-false p q e))
-    | inr l ↦ above j (ltb-false j q l)
-  ])))
-])
-  where
-    ordered : Ordered (thePlaces numbers) (T .txns) order
-    ordered = rw (planned .txns) at o
+head-stands T plan numbers flags closed order s p q head planned o below above starts at =
+    at ∙ head-is (thePlaces numbers) (T .txns) order (theDelivered flags) closed s p q (planned .fits .txns) (rw (planned .txns) at o) (portion-length false (λ x. x) flags 1024 2048) below above starts
 
 -- ---- what is known
 
@@ -130,27 +110,9 @@ pub code-past : (T : Tables) → Fits T → (w : Parts) (s c : ℕ) → T .txns 
 code-past T fits w s c l one k = code-shut T fits w s c one k (ne-eqb (closing T w c s) 0 (λ z. absurd (omega (arith, close-has T w c s z .txn))))
 
 module _ (T : Tables) (w : Parts) (order l : List ℕ) (k : Knows T w order l) (s : ℕ) (low : s < 16) where
-  -- the code of s
-  pub knows-at : KnowsAt T w s (getD l s 0)
-  knows-at t h z =
-      let e : getD (codesIn l) s any ≡ getD l s 0 = portion-at 0 (λ c. c) l 0 16 s any low ∙ ap (λ i. getD l i 0) (omega arith) in
-      k .closing s t (rw e h) z
-
-  -- the queue starts no sooner than at p, where it was looked for from where it was known to start
-  pub knows-below : (p : ℕ) → ((i : ℕ) → lowAt l s ≤ i → i < p → queuedIn (w .delivered) (w .closed) s (getD order i nobody) ≡ false)
-      → (i : ℕ) → i < p → queuedIn (w .delivered) (w .closed) s (getD order i nobody) ≡ false
-  knows-below p h i b = elim (bool (ltb i (lowAt l s))) [
-    | inl e ↦ k .low s i low (ltb-true i (lowAt l s) e)
-    | inr e ↦ h i (ltb-false i (lowAt l s) e) b
-  ]
-
   -- where none was found that can be closed, that is known too
   pub knows-none : Fits T → s < length l → nobody ≤ closesFirstIn T w s → Knows T w order (set l s nobody)
   knows-none fits b h = knows-code T w order l k s nobody low b (λ t _ z. none-closes T fits w s h t z)
-
-  -- and where the queue was looked for, where it starts
-  pub knows-moved : (p : ℕ) → 48 + s < length l → ((i : ℕ) → lowAt l s ≤ i → i < p → queuedIn (w .delivered) (w .closed) s (getD order i nobody) ≡ false) → Knows T w order (set l (48 + s) p)
-  knows-moved p b h = knows-low T w order l k s p low b (knows-below p h)
 
 -- ---- the first site
 

@@ -10,23 +10,22 @@ use lib.Dec.{eqb, leb, ltb}
 use lib.ListN.{set}
 use lib.Seq.{getD-set-other}
 use borrow.Author.Tests.{eq-eqb, ne-eqb, eqb-false, leb-false, lt-leb, ltb-false, not-true, not-false}
+use Rattle.queues.specs.Queue.{queuedIn, precedes, headIn, blockedIn, nextIn, nextOf, blockedOf}
+use Rattle.layout.specs.Cells.{placeIn, cell, versionIn}
 use Rattle.bounded.specs.Bounded.{anyBelow}
 use Rattle.bounded.proofs.Truth.{and-true, and-put, or-false, bool, clash, same, passed}
-use Rattle.bounded.proofs.Laws.{any-get, any-put}
+use Rattle.bounded.proofs.Laws.{any-get, any-put, all-same, any-same, first-same}
 use Rattle.keys.specs.Keys.{member}
 use Rattle.tables.specs.Lists.{rowAt}
 use Rattle.tables.specs.Sites.{siteCount}
 use Rattle.tables.specs.Concern.{concerns, local}
 use Rattle.tables.specs.declared.Tables.{Tables}
-use Rattle.rules.specs.Cells.{placeIn, cell, versionIn}
-use Rattle.rules.specs.Queue.{queuedIn, precedes, headIn, blockedIn, nextIn}
 use Rattle.rules.specs.Votes.{holdsVote, allYesIn, roomIn}
 use Rattle.steps.specs.declared.Place.{Place}
 use Rattle.steps.specs.declared.Version.{Version}
-use Rattle.rules.specs.Asked.{nextOf, blockedOf, verdictAt, roomOf}
+use Rattle.rules.specs.Asked.{verdictAt, roomOf}
 use Rattle.refusals.specs.Refusals.{deliverRefusalIn, voteRefusalIn, carryRefusalIn, verdictRefusalIn, closeRefusalIn}
 use Rattle.search.specs.Search.{Parts, parts, closing}
-use Rattle.search.proofs.Laws.{all-same, any-same, first-same}
 
 -- a store at one transaction and site leaves every other
 pub cell-other : {A : Type 0} (d : A) (l : List A) (t s u r : ℕ) (v : A) → s < 16 → r < 16 → (u ≡ t → r ≡ s → ⊥) → cell d (set l (t * 16 + s) v) u r ≡ cell d l u r
@@ -162,11 +161,12 @@ deliver-same T places delivered delivered′ closed closed′ s d c = rw (next, 
 
 -- ---- CARRY
 
--- accepted: t is a global transaction, from and to are two sites, from has cast its vote, and to has it not
+-- accepted: t is a global transaction, from and to are two sites, to of R(t), from has cast its vote, and to has it not
 pub record Carries (T : Tables) (cast carried : List ℕ) (t from to : ℕ) : Type 0 where
   pub txn : t < T .txns
   pub giver : from < siteCount T
   pub taker : to < siteCount T
+  pub concerned : concerns T t to ≡ true
   pub global : local T t ≡ false
   pub differ : from ≡ to → ⊥
   pub voted : cell 0 cast t from ≡ 0 → ⊥
@@ -179,7 +179,7 @@ carry-has T cast carried t from to h =
     let (a, h1) = passed 20 (omega arith) (leb (T .txns) t) _ h in
     let (b, h2) = passed 21 (omega arith) (leb n from || leb n to) _ h1 in
     let (f, g) = or-false (leb n from) (leb n to) b in
-    let h3 = passed 23 (omega arith) (not (concerns T t to)) _ h2 .1 in
+    let (c, h3) = passed 23 (omega arith) (not (concerns T t to)) _ h2 in
     let (e, h4) = passed 28 (omega arith) (local T t || (eqb from to || eqb (cell 0 cast t from) 0)) _ h3 in
     let z = passed 24 (omega arith) (holdsVote (cell 0 cast t to) (cell 0 carried t to) to from) _ h4 .0 in
     let (o, e1) = or-false (local T t) _ e in
@@ -188,15 +188,12 @@ carry-has T cast carried t from to h =
       txn = leb-false _ _ a;
       giver = leb-false _ _ f;
       taker = leb-false _ _ g;
+      concerned = not-false _ c;
       global = o;
       differ = eqb-false _ _ d;
       voted = eqb-false _ _ v;
       lacks = rw d at z;
     }
-
--- so no vote but one that was cast
-pub carry-only : (T : Tables) (cast carried : List ℕ) (t from to : ℕ) → cell 0 cast t from ≡ 0 → eqb (carryRefusalIn T cast carried t from to) 0 ≡ false
-carry-only T cast carried t from to h = ne-eqb _ _ (λ z. carry-has T cast carried t from to z .voted h)
 
 -- it looks at what from cast, and at what to cast and was handed of from
 pub carry-same : (T : Tables) (cast cast′ carried carried′ : List ℕ) (t from to : ℕ)

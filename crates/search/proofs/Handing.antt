@@ -2,76 +2,47 @@
 -- Assumes nothing.
 use Prim.Native.Nat.{ℕ, zero, suc, _+_, _*_, _/_, _%_, _≤_, _<_}
 use mathlib.Core.Path.{_≡_, refl, sym, ap, _∙_}
-use mathlib.Core.Bool.{Bool, true, false, not, cond}
+use mathlib.Core.Bool.{true, false, not, cond}
 use mathlib.Core.List.{List}
 use mathlib.Core.Logic.{inl, inr}
 use native.Mathlib.Omega.{arith}
 use native.Mathlib.Numerals.{add-one}
 use lib.Dec.{eqb, ltb}
-use lib.ListN.{length, getD, set, List·getD-eq-default}
+use lib.ListN.{length, getD, set}
 use lib.Seq.{getD-set-same, getD-set-other}
-use borrow.Author.Tests.{eq-eqb, eqb-true, eqb-false, lt-ltb, ltb-true, ltb-false, le-ltb}
+use borrow.Author.Tests.{eq-eqb, eqb-true, eqb-false, lt-ltb, ltb-true, le-ltb}
+use Rattle.queues.specs.Queue.{queuedIn}
+use Rattle.order.specs.Order.{queuedAt}
+use Rattle.order.proofs.Positions.{head-is}
 use Rattle.bounded.specs.Bounded.{firstBelow}
-use Rattle.bounded.proofs.Truth.{and-true, or-right, bool, clash, same}
+use Rattle.bounded.proofs.Truth.{or-right, clash, same}
+use Rattle.bounded.proofs.Laws.{first-same, first-only, first-none, first-has}
 use Rattle.keys.specs.Keys.{member, adding}
 use Rattle.keys.proofs.Laws.{adding-same, adding-other}
 use Rattle.tables.specs.Sites.{siteCount}
 use Rattle.tables.specs.Concern.{local}
 use Rattle.tables.specs.Fits.{Fits}
 use Rattle.tables.specs.declared.Tables.{Tables}
-use Rattle.layout.specs.Layout.{theVersions, thePlaces, theDelivered, theClosed, theCast}
-use Rattle.layout.proofs.Laws.{portion-length, portion-at}
-use Rattle.rules.specs.Cells.{placeIn, cell, nobody}
-use Rattle.rules.specs.Queue.{queuedIn}
+use Rattle.layout.proofs.Laws.{portion-at}
+use Rattle.layout.specs.Cells.{placeIn, cell, nobody}
 use Rattle.refusals.specs.Refusals.{carryRefusalIn}
-use Rattle.search.specs.Search.{Parts, parts, closing, nowhere, closesFirstIn, firstClosingIn, firstDeliveringIn, firstToIn, firstFromIn, firstCarriedIn, todoIn}
+use Rattle.search.specs.Search.{Parts, closing, nowhere, closesFirstIn, firstClosingIn, firstDeliveringIn, firstToIn, firstFromIn, firstCarriedIn, todoIn}
 use Rattle.search.specs.Known.{any, PassedTo, firstPair, codesIn, passedIn, lowAt, topAt, openAt, Knows, carriedParts, Carried}
-use Rattle.search.specs.declared.Todo.{Todo}
-use Rattle.search.specs.declared.Todo.the-variants.{Close, Deliver, Carry, Nothing}
-use Rattle.search.proofs.Laws.{first-same, first-only, first-none, first-has, first-lacks}
+use Rattle.search.specs.declared.Todo.the-variants.{Carry}
 use Rattle.search.proofs.Frames.{cell-other, close-has, close-back, verdict-same, Carries, carry-has, carry-same}
-use Rattle.search.proofs.Pair.{next-says, pair-carries, pair-stop, pair-none, pair-up, pair-to, pair-from}
-use Rattle.search.proofs.Tried.{none-closes}
-use Rattle.search.proofs.Order.{order-first, order-none}
-use Rattle.search.proofs.Stored.{knows-code, knows-low, knows-passed}
-
--- the parts of a state as they are lent
-abbrev pub whole : List ℕ → List Bool → List ℕ → List ℕ → Parts
-whole numbers flags marks carried = parts (theVersions numbers) (thePlaces numbers) (theDelivered flags) (theClosed marks) (theCast marks) carried
+use Rattle.search.proofs.Pair.{pair-stop, pair-none, pair-up, pair-to, pair-from}
+use Rattle.search.proofs.Accepted.{Hands, next-says, nothing-closes}
+use Rattle.search.proofs.Stored.{knows-code, knows-below, knows-passed}
 
 -- ---- the head of a queue
 
--- who is in a queue is a transaction
-pub queued-inside : (flags : List Bool) (closed : List ℕ) (s u : ℕ) → queuedIn (theDelivered flags) closed s u ≡ true → u < nobody
-queued-inside flags closed s u h = elim (bool (ltb u nobody)) [
-  | inl e ↦ ltb-true u nobody e
-  | inr e ↦ clash (and-true (cell false (theDelivered flags) u s) (eqb (cell 0 closed u s) 0) h .0)
-      (List·getD-eq-default (theDelivered flags) false {n = u * 16 + s} (omega (arith, portion-length false (λ x. x) flags 1024 2048, ltb-false u nobody e)))
-]
-
--- where none is in the queue of s from the first position that may be up to r
-module _ (T : Tables) (fits : Fits T) (w : Parts) (order l : List ℕ) (k : Knows T w order l) (s r : ℕ) (low : s < 16)
-    (none : (i : ℕ) → lowAt l s ≤ i → i < r → queuedIn (w .delivered) (w .closed) s (getD order i nobody) ≡ false) where
-  below : (i : ℕ) → i < r → queuedIn (w .delivered) (w .closed) s (getD order i nobody) ≡ false
-  below i h = elim (bool (ltb i (lowAt l s))) [ inl e ↦ k .low s i low (ltb-true _ _ e) | inr e ↦ none i (ltb-false _ _ e) h ]
-
-  -- r is such a position
-  pub head-low : 48 + s < length l → Knows T w order (set l (48 + s) r)
-  head-low b = knows-low T w order l k s r low b below
-
-  -- and if one is there, it is the first by place
-  pub head-found : ((u : ℕ) → queuedIn (w .delivered) (w .closed) s u ≡ true → u < nobody)
-      → (r < topAt l s → queuedIn (w .delivered) (w .closed) s (getD order r nobody) ≡ true)
-      → cond (ltb r (topAt l s)) (getD order r nobody) nobody ≡ firstBelow (T .txns) (placeIn (w .places)) (queuedIn (w .delivered) (w .closed) s) nobody
-  head-found inside here = elim (bool (ltb r (topAt l s))) [
-    | inl e ↦
-        let h = here (ltb-true _ _ e) in
-        rw e (sym (order-first (w .places) (T .txns) order (fits .txns) (k .ordered) (queuedIn (w .delivered) (w .closed) s) r (λ j m _. below j m) (inside (getD order r nobody) h) h))
-    | inr e ↦ rw e (sym (order-none (w .places) (T .txns) order (fits .txns) (k .ordered) (queuedIn (w .delivered) (w .closed) s) (λ j _. elim (bool (ltb j r)) [
-      | inl m ↦ below j (ltb-true j r m)
-      | inr m ↦ k .top s j low (omega (arith, ltb-false j r m, ltb-false r (topAt l s) e))
-    ])))
-  ]
+-- where none is in the queue of s from the first position that may be up to r: if one is there, it is the first by place
+pub head-found : (T : Tables) → Fits T → (w : Parts) (order l : List ℕ) → Knows T w order l → (s r : ℕ) → s < 16 → length (w .delivered) ≡ 2048
+    → ((i : ℕ) → lowAt l s ≤ i → i < r → queuedAt (w .delivered) (w .closed) order s i ≡ false)
+    → (r < topAt l s → queuedAt (w .delivered) (w .closed) order s r ≡ true)
+    → cond (ltb r (topAt l s)) (getD order r nobody) nobody ≡ firstBelow (T .txns) (placeIn (w .places)) (queuedIn (w .delivered) (w .closed) s) nobody
+head-found T fits w order l k s r low long none here =
+    head-is (w .places) (T .txns) order (w .delivered) (w .closed) s r (topAt l s) (fits .txns) (k .ordered) long (knows-below T w order l k s low r none) (λ i h. k .top s i low h) here
 
 -- ---- only votes on t are to be carried
 
@@ -84,42 +55,8 @@ pub record Handing (T : Tables) (w : Parts) (t : ℕ) : Type 0 where
   pub least : (u : ℕ) → u < T .txns → ltb (firstFromIn T (w .cast) (w .carried) u) nowhere ≡ true → placeIn (w .places) t ≤ placeIn (w .places) u
   pub lower : (u : ℕ) → u < T .txns → ltb (firstFromIn T (w .cast) (w .carried) u) nowhere ≡ true → placeIn (w .places) u ≡ placeIn (w .places) t → t ≤ u
 
--- what the searches found where CARRY comes next
-abbrev Found : Tables → Parts → Todo → Type 0
-Found T w (Close t s) = Unit {0}
-Found T w (Deliver s) = Unit {0}
-Found T w (Carry t from to) = (nowhere ≤ firstClosingIn T w) × (nowhere ≤ firstDeliveringIn T (w .places) (w .delivered) (w .closed)) × (t < nobody) × (t ≡ firstCarriedIn T (w .places) (w .cast) (w .carried))
-Found T w Nothing = Unit {0}
-
-todo-found : (T : Tables) (w : Parts) → Found T w (todoIn T w)
-unfolding todoIn
-todo-found T w = by (ltb (firstClosingIn T w) nowhere) (ltb d nowhere) (ltb t nobody) refl refl refl
-  where
-    d : ℕ
-    d = firstDeliveringIn T (w .places) (w .delivered) (w .closed)
-
-    t : ℕ
-    t = firstCarriedIn T (w .places) (w .cast) (w .carried)
-
-    f : ℕ
-    f = firstFromIn T (w .cast) (w .carried) t
-
-    by : (a b c : Bool) → ltb (firstClosingIn T w) nowhere ≡ a → ltb d nowhere ≡ b → ltb t nobody ≡ c
-        → Found T w (cond a (Close (closesFirstIn T w (firstClosingIn T w)) (firstClosingIn T w)) (cond b (Deliver d) (cond c (Carry t f (firstToIn T (w .cast) (w .carried) t f)) Nothing)))
-    by true b c p q r = tt
-    by false true c p q r = tt
-    by false false true p q r = (ltb-false _ _ p, ltb-false _ _ q, ltb-true _ _ r, refl)
-    by false false false p q r = tt
-
 module _ (T : Tables) (fits : Fits T) (w : Parts) where
-  -- where the search for a CLOSE finds no site nothing can be closed, and the other way round
-  nothing-closes : nowhere ≤ firstClosingIn T w → (u s : ℕ) → closing T w u s ≡ 0 → ⊥
-  unfolding firstClosingIn
-  nothing-closes h u s z = elim (bool (ltb (closesFirstIn T w s) nobody)) [
-    | inl e ↦ first-lacks (siteCount T) (λ i. 0) (λ s. ltb (closesFirstIn T w s) nobody) nowhere (fits .sites) h s (close-has T w u s z .site) e
-    | inr e ↦ none-closes T fits w s (ltb-false _ _ e) u z
-  ]
-
+  -- where nothing can be closed, the search for a CLOSE finds no site
   closes-nothing : ((u s : ℕ) → closing T w u s ≡ 0 → ⊥) → firstClosingIn T w ≡ nowhere
   unfolding firstClosingIn closesFirstIn
   closes-nothing h = first-none (siteCount T) (λ i. 0) (λ s. ltb (closesFirstIn T w s) nobody) nowhere (fits .sites) (λ s l e.
@@ -127,37 +64,31 @@ module _ (T : Tables) (fits : Fits T) (w : Parts) where
       h (closesFirstIn T w s) s (eqb-true _ _ (g .passes)))
 
   module _ (t from to : ℕ) (next : todoIn T w ≡ Carry t from to) where
+    says : Hands T w t from to
+    says = next-says T w fits (Carry t from to) next
+
     -- where CARRY of a vote on t comes next, that vote can be carried
     pub next-carries : Carries T (w .cast) (w .carried) t from to
-    next-carries =
-        let says = next-says T w (Carry t from to) fits next in
-        let p = firstPair T (w .cast) (w .carried) t in
-        let e = says .2 in
-        let a : p / 16 ≡ from = omega (arith, says .0, says .1) in
-        let b : p % 16 ≡ to = omega (arith, says .0, says .1) in
-        carry-has T (w .cast) (w .carried) t from to (rw (a, b) at (pair-carries T (w .cast) (w .carried) t (omega (arith, says .0, says .1))))
+    next-carries = carry-has T (w .cast) (w .carried) t from to (says .accepted)
 
     -- and only votes on t are to be carried
     pub next-hands : Handing T w t
     unfolding firstCarriedIn
     next-hands =
-        let (a, b, l, e) = rw next at (todo-found T w) in
-        let g = first-has (T .txns) (placeIn (w .places)) (λ u. ltb (firstFromIn T (w .cast) (w .carried) u) nowhere) nobody (fits .txns) (rw e at l) in
-        let c = next-carries in
+        let e = says .first in
+        let g = first-has (T .txns) (placeIn (w .places)) (λ u. ltb (firstFromIn T (w .cast) (w .carried) u) nowhere) nobody (fits .txns) (rw e at (says .low)) in
         record {
-          txn = c .txn;
-          global = c .global;
-          closes = nothing-closes a;
-          delivers = b;
+          txn = next-carries .txn;
+          global = next-carries .global;
+          closes = nothing-closes T w fits (says .closes);
+          delivers = says .delivers;
           least = λ u m h. rw e (g .least u m h);
           lower = λ u m h q. rw e (g .lower u m h (rw e at q));
         }
 
     -- so not all pairs are passed
     pub next-left : (q : ℕ) → 256 ≤ q → PassedTo T (w .cast) (w .carried) t q → ⊥
-    next-left q l k =
-        let says = next-says T w (Carry t from to) fits next in
-        omega (arith, says .0, says .1, says .2, pair-none T (w .cast) (w .carried) t q l k)
+    next-left q l k = omega (arith, says .giver, says .taker, says .pair, pair-none T (w .cast) (w .carried) t q l k)
 
   -- and the first pair that can carry is what comes next
   pub hands-next : (t q : ℕ) → Handing T w t → q < 256 → PassedTo T (w .cast) (w .carried) t q → carryRefusalIn T (w .cast) (w .carried) t (q / 16) (q % 16) ≡ 0 → todoIn T w ≡ Carry t (q / 16) (q % 16)

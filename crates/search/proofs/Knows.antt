@@ -8,92 +8,36 @@ use mathlib.Core.Logic.{_⊎_, inl, inr}
 use native.Mathlib.Omega.{arith}
 use lib.Dec.{eqb, ltb}
 use lib.ListN.{length, getD, set, List·getD-eq-default}
-use lib.Seq.{getD-set-same, getD-set-other}
+use lib.Seq.{getD-set-same}
 use borrow.Author.Tests.{eq-eqb, ne-eqb, eqb-true, eqb-false, ltb-true, ltb-false, not-true}
+use Rattle.queues.specs.Queue.{queuedIn, waits}
+use Rattle.layout.specs.Cells.{placeIn, cell, versionIn, nobody}
+use Rattle.order.specs.Order.{rankOf, Ordered, queuedAt}
+use Rattle.order.proofs.Order.{head-first}
+use Rattle.order.proofs.Positions.{head-is, queued-low}
 use Rattle.bounded.specs.Bounded.{firstBelow}
 use Rattle.bounded.proofs.Truth.{or-true, or-false, and-true, and-put, bool, clash, same}
 use Rattle.bounded.proofs.Laws.{any-none}
+use Rattle.bounded.proofs.Lists.{stored-true}
 use Rattle.keys.specs.Keys.{member}
-use Rattle.layout.proofs.Laws.{portion-at, portion-length}
 use Rattle.tables.specs.Lists.{writeCount, writeKey}
 use Rattle.tables.specs.Sites.{siteCount, siteKeys}
 use Rattle.tables.specs.Concern.{concerns}
 use Rattle.tables.specs.Fits.{Fits}
 use Rattle.tables.specs.declared.Tables.{Tables}
-use Rattle.rules.specs.Cells.{placeIn, cell, versionIn, nobody}
-use Rattle.rules.specs.Queue.{queuedIn, waits}
 use Rattle.rules.specs.Votes.{holdsVote}
 use Rattle.rules.specs.Asked.{verdictAt}
-use Rattle.steps.specs.declared.Place.{Place}
 use Rattle.steps.specs.declared.Version.{Version}
 use Rattle.refusals.specs.Refusals.{deliverRefusalIn, carryRefusalIn}
-use Rattle.search.specs.Search.{Parts, closing, nowhere, closesFirstIn, firstClosingIn, firstDeliveringIn, firstCarriedIn, firstFromIn, firstToIn, todoIn}
-use Rattle.search.specs.Order.{rankOf, Ordered}
-use Rattle.search.specs.Known.{any, excludes, KnowsClosing, KnowsAt, KnowsStuck, PassedTo, KnowsPassed, codesIn, stuckIn, passedIn, lowAt, topAt, openAt, Knows, shared, joined, closedParts, deliveredParts}
-use Rattle.search.specs.declared.Todo.{Todo}
-use Rattle.search.specs.declared.Todo.the-variants.{Close, Deliver, Carry, Nothing}
-use Rattle.search.proofs.Laws.{stored-true, first-has}
+use Rattle.search.specs.Search.{Parts, closing, todoIn}
+use Rattle.search.specs.Known.{any, excludes, KnowsClosing, KnowsAt, codesIn, lowAt, topAt, openAt, Knows, shared, joined, closedParts, deliveredParts}
+use Rattle.search.specs.declared.Todo.the-variants.{Close, Deliver}
 use Rattle.search.proofs.Frames.{cell-other, close-has, close-put, verdict-same, room-same, close-back, deliver-site, deliver-same, carry-has, carry-same}
-use Rattle.search.proofs.Pair.{next-says}
+use Rattle.search.proofs.Accepted.{next-says}
 use Rattle.search.proofs.Tried.{excludes-none}
-use Rattle.search.proofs.Order.{order-first, order-none, head-first}
-
--- ---- what is known, entry by entry of the list
-
--- the code of site s
-code-at : (l : List ℕ) (s : ℕ) → s < 16 → getD (codesIn l) s any ≡ getD l s 0
-code-at l s h = portion-at 0 (λ c. c) l 0 16 s any h ∙ ap (λ k. getD l k 0) (omega arith)
-
--- the pairs passed of t
-pass-at : (l : List ℕ) (t : ℕ) → t < 128 → getD (passedIn l) t 0 ≡ getD l (80 + t) 0
-pass-at l t h = portion-at 0 (λ p. p) l 80 128 t 0 h
-
-pub closing-get : (T : Tables) (w : Parts) (l : List ℕ) → KnowsClosing T w (codesIn l) → (s : ℕ) → s < 16 → KnowsAt T w s (getD l s 0)
-closing-get T w l k s h t x z = k s t (rw (code-at l s h) x) z
-
-pub closing-put : (T : Tables) (w : Parts) (l : List ℕ) → ((s : ℕ) → s < 16 → KnowsAt T w s (getD l s 0)) → KnowsClosing T w (codesIn l)
-closing-put T w l h s t x z = elim (bool (ltb s 16)) [
-  | inl e ↦ let q = ltb-true s 16 e in h s q t (rw (code-at l s q) at x) z
-  | inr e ↦ excludes-none (getD (codesIn l) s any) t
-      (List·getD-eq-default (codesIn l) any (omega (arith, portion-length 0 (λ (c : ℕ). c) l 0 16, ltb-false s 16 e))) x
-]
-
-module _ (T : Tables) (places : List Place) (delivered : List Bool) (closed l : List ℕ) where
-  pub stuck-get : KnowsStuck T places delivered closed (stuckIn l) → (s : ℕ) → s < 16 → getD l (16 + s) 0 ≡ 1 → deliverRefusalIn T places delivered closed s ≡ 0 → ⊥
-  stuck-get k s h e z = k s (portion-at 0 (λ x. eqb x 1) l 16 16 s false h ∙ eq-eqb _ _ e) z
-
-  pub stuck-put : ((s : ℕ) → s < 16 → getD l (16 + s) 0 ≡ 1 → deliverRefusalIn T places delivered closed s ≡ 0 → ⊥) → KnowsStuck T places delivered closed (stuckIn l)
-  stuck-put h s x z = elim (bool (ltb s 16)) [
-    | inl e ↦ let q = ltb-true s 16 e in h s q (eqb-true _ _ (sym (portion-at 0 (λ x. eqb x 1) l 16 16 s false q) ∙ x)) z
-    | inr e ↦ clash x (List·getD-eq-default (stuckIn l) false (omega (arith, portion-length 0 (λ x. eqb x 1) l 16 16, ltb-false s 16 e)))
-  ]
-
-module _ (T : Tables) (cast carried l : List ℕ) where
-  pub passed-get : KnowsPassed T cast carried (passedIn l) → (t : ℕ) → t < 128 → PassedTo T cast carried t (getD l (80 + t) 0)
-  passed-get k t h = rw (pass-at l t h) at (k t)
-
-  pub passed-put : ((t : ℕ) → t < 128 → PassedTo T cast carried t (getD l (80 + t) 0)) → KnowsPassed T cast carried (passedIn l)
-  passed-put h t = elim (bool (ltb t 128)) [
-    | inl e ↦ let q = ltb-true t 128 e in rw (pass-at l t q) (h t q)
-    | inr e ↦ λ p m. absurd (omega (arith, List·getD-eq-default (passedIn l) 0 {n = t} (omega (arith, portion-length 0 (λ (p : ℕ). p) l 80 128, ltb-false t 128 e))))
-  ]
-
--- ---- a store of x at i
-
-pub put-same : (l l′ : List ℕ) (i x : ℕ) → (l′ ≡ set l i x) × (i < length l) → getD l′ i 0 ≡ x
-put-same l l′ i x h = ap (λ k. getD k i 0) (h .0) ∙ getD-set-same l i x 0 (h .1)
-
-pub put-other : (l l′ : List ℕ) (i x : ℕ) → (l′ ≡ set l i x) × (i < length l) → (j : ℕ) → (j ≡ i → ⊥) → getD l′ j 0 ≡ getD l j 0
-put-other l l′ i x h j d = ap (λ k. getD k j 0) (h .0) ∙ getD-set-other l i j x 0 d
+use Rattle.search.proofs.Entries.{closing-get, closing-put, stuck-get, stuck-put, passed-is, passed-get, passed-put}
 
 -- ---- at first
-
--- who is past the last transaction is in no queue
-pub queued-low : (delivered : List Bool) (closed : List ℕ) (s u : ℕ) → length delivered ≡ 2048 → queuedIn delivered closed s u ≡ true → u < 128
-queued-low delivered closed s u long h = elim (bool (ltb (u * 16 + s) 2048)) [
-  | inl e ↦ omega (arith, ltb-true (u * 16 + s) 2048 e)
-  | inr e ↦ clash (and-true (cell false delivered u s) (eqb (cell 0 closed u s) 0) h .0) (List·getD-eq-default delivered false (omega (arith, ltb-false (u * 16 + s) 2048 e)))
-]
 
 pub knows-first : (T : Tables) (w : Parts) (order l : List ℕ) → Ordered (w .places) (T .txns) order → length order ≡ 128 → length (w .delivered) ≡ 2048
     → ((s : ℕ) → s < 16 → (getD l s 0 ≡ 129) × (getD l (64 + s) 0 ≡ 128))
@@ -106,7 +50,7 @@ knows-first T w order l o long wide sites rest = record {
   passed = passed-put T (w .cast) (w .carried) l (λ t h p m z. absurd (omega (arith, rest (80 + t) (omega arith) .1 (omega arith))));
   next = λ s i h m. absurd (omega (arith, rest (32 + s) (omega arith) .0 (omega arith)));
   low = λ s i h m. absurd (omega (arith, rest (48 + s) (omega arith) .0 (omega arith)));
-  top = λ s i h m. elim (bool (queuedIn (w .delivered) (w .closed) s (getD order i nobody))) [
+  top = λ s i h m. elim (bool (queuedAt (w .delivered) (w .closed) order s i)) [
     | inl e ↦ absurd (omega (arith, queued-low (w .delivered) (w .closed) s (getD order i nobody) wide e, List·getD-eq-default order nobody {n = i} (omega (arith, sites s h .1))))
     | inr e ↦ e
   ];
@@ -115,69 +59,14 @@ knows-first T w order l o long wide sites rest = record {
 
 -- ---- after CLOSE
 
--- the head of a queue that is between positions p and q
-pub head-is : (places : List Place) (n : ℕ) (order : List ℕ) (delivered : List Bool) (closed : List ℕ) (s p q : ℕ) → n ≤ nobody → Ordered places n order → length delivered ≡ 2048
-    → ((i : ℕ) → i < p → queuedIn delivered closed s (getD order i nobody) ≡ false)
-    → ((i : ℕ) → q ≤ i → queuedIn delivered closed s (getD order i nobody) ≡ false)
-    → (p < q → queuedIn delivered closed s (getD order p nobody) ≡ true)
-    → cond (ltb p q) (getD order p nobody) nobody ≡ firstBelow n (placeIn places) (queuedIn delivered closed s) nobody
-head-is places n order delivered closed s p q fits o long low top here = elim (bool (ltb p q)) [
-  | inl e ↦
-      let h = here (ltb-true p q e) in
-      rw e (sym (order-first places n order fits o (queuedIn delivered closed s) p (λ j m _. low j m) (queued-low delivered closed s (getD order p nobody) long h) h))
-  | inr e ↦ rw e (sym (order-none places n order fits o (queuedIn delivered closed s) (λ j _. elim (bool (ltb j p)) [
-    | inl m ↦ low j (ltb-true j p m)
-    | inr m ↦ top j (omega (arith, ltb-false p q e, ltb-false j p m))
-  ])))
-]
-
--- what the search for a CLOSE finds can be closed
-one-closes : (T : Tables) (w : Parts) (s : ℕ) → Fits T → closesFirstIn T w s < nobody → closing T w (closesFirstIn T w s) s ≡ 0
-unfolding closesFirstIn
-one-closes T w s fits h = eqb-true _ _ (first-has (T .txns) (placeIn (w .places)) (λ t. eqb (closing T w t s) 0) nobody (fits .txns) h .passes)
-
-first-closes : (T : Tables) (w : Parts) → Fits T → firstClosingIn T w < nowhere → closesFirstIn T w (firstClosingIn T w) < nobody
-unfolding firstClosingIn
-first-closes T w fits h = ltb-true _ _ (first-has (siteCount T) (λ i. 0) (λ s. ltb (closesFirstIn T w s) nobody) nowhere (fits .sites) h .passes)
-
--- so what comes next can be
-abbrev Shuts : Tables → Parts → Todo → Type 0
-Shuts T w (Close t s) = closing T w t s ≡ 0
-Shuts T w (Deliver s) = Unit {0}
-Shuts T w (Carry t from to) = Unit {0}
-Shuts T w Nothing = Unit {0}
-
-todo-shuts : (T : Tables) (w : Parts) → Fits T → Shuts T w (todoIn T w)
-unfolding todoIn
-todo-shuts T w fits = by (ltb (firstClosingIn T w) nowhere) (ltb d nowhere) (ltb t nobody) refl
-  where
-    d : ℕ
-    d = firstDeliveringIn T (w .places) (w .delivered) (w .closed)
-
-    t : ℕ
-    t = firstCarriedIn T (w .places) (w .cast) (w .carried)
-
-    f : ℕ
-    f = firstFromIn T (w .cast) (w .carried) t
-
-    by : (a b c : Bool) → ltb (firstClosingIn T w) nowhere ≡ a
-        → Shuts T w (cond a (Close (closesFirstIn T w (firstClosingIn T w)) (firstClosingIn T w)) (cond b (Deliver d) (cond c (Carry t f (firstToIn T (w .cast) (w .carried) t f)) Nothing)))
-    by true b c p = one-closes T w (firstClosingIn T w) fits (first-closes T w fits (ltb-true _ _ p))
-    by false true c p = tt
-    by false false true p = tt
-    by false false false p = tt
-
-next-shuts : (T : Tables) (w : Parts) (t s : ℕ) → Fits T → todoIn T w ≡ Close t s → closing T w t s ≡ 0
-next-shuts T w t s fits e = rw e at (todo-shuts T w fits)
-
 -- CLOSE of t at s changes what s has closed and stores: its queue loses t, other sites' judgements and every CARRY's stay
 module _ (T : Tables) (fits : Fits T) (w : Parts) (versions : List Version) (t s c : ℕ) (next : todoIn T w ≡ Close t s) (new : 0 < c) (long : length (w .closed) ≡ 2048) where
   same-closed : (u r : ℕ) → r < 16 → (u ≡ t → r ≡ s → ⊥) → cell 0 (set (w .closed) (t * 16 + s) c) u r ≡ cell 0 (w .closed) u r
-  same-closed u r l d = cell-other 0 (w .closed) t s u r c (next-says T w (Close t s) fits next) l d
+  same-closed u r l d = cell-other 0 (w .closed) t s u r c (next-says T w fits (Close t s) next .0) l d
 
   now-closed : cell 0 (set (w .closed) (t * 16 + s) c) t s ≡ c
   now-closed = getD-set-same (w .closed) (t * 16 + s) c 0
-      (omega (arith, fits .txns, close-has T w t s (next-shuts T w t s fits next) .txn, next-says T w (Close t s) fits next))
+      (omega (arith, fits .txns, close-has T w t s (next-says T w fits (Close t s) next .1) .txn, next-says T w fits (Close t s) next .0))
 
   -- who is in a queue now was there before
   left : (u r : ℕ) → r < 16 → queuedIn (w .delivered) (w .closed) r u ≡ false → queuedIn (w .delivered) (set (w .closed) (t * 16 + s) c) r u ≡ false
@@ -206,12 +95,12 @@ module _ (T : Tables) (fits : Fits T) (w : Parts) (versions : List Version) (t s
           txn = g .txn;
           site = g .site;
           concerned = g .concerned;
-          unclosed = sym (same-closed u s (next-says T w (Close t s) fits next) (λ x _. d x)) ∙ g .unclosed;
+          unclosed = sym (same-closed u s (next-says T w fits (Close t s) next .0) (λ x _. d x)) ∙ g .unclosed;
           delivered = g .delivered;
           known = g .known;
           head = λ x. absurd (e x);
           room = λ x. absurd (e x);
-        })) ∙ sym (only t (next-shuts T w t s fits next)))
+        })) ∙ sym (only t (next-says T w fits (Close t s) next .1)))
       ]
 
   pub knows-closed : ((u i : ℕ) → u < T .txns → i < writeCount T u → writeKey T u i < 64)
@@ -242,7 +131,7 @@ module _ (T : Tables) (fits : Fits T) (w : Parts) (versions : List Version) (t s
       | inr d ↦ left (getD order i nobody) r h (k .low r i h (rw (other (48 + r) (λ e. absurd (omega (arith, site))) (λ e. absurd (omega (arith, site))) (λ e. d (omega arith))) at m))
     ];
     top = λ r i h m. left (getD order i nobody) r h (k .top r i h (rw (other (64 + r) (λ e. absurd (omega (arith, site))) (λ e. absurd (omega (arith, site))) (λ e. absurd (omega (arith, site)))) at m));
-    opened = λ i m h. rw (pass-at l′ (getD order i nobody) h, pass (getD order i nobody), ← pass-at l (getD order i nobody) h)
+    opened = λ i m h. rw (passed-is l′ (getD order i nobody) h, pass (getD order i nobody), ← passed-is l (getD order i nobody) h)
         (k .opened i (rw (other 208 (λ e. absurd (omega (arith, site))) (λ e. absurd (omega (arith, site))) (λ e. absurd (omega (arith, site)))) at m) h);
   }
     where
@@ -250,7 +139,7 @@ module _ (T : Tables) (fits : Fits T) (w : Parts) (versions : List Version) (t s
       w′ = closedParts w versions t s c
 
       site : s < 16
-      site = next-says T w (Close t s) fits next
+      site = next-says T w fits (Close t s) next .0
 
       pass : (u : ℕ) → getD l′ (80 + u) 0 ≡ getD l (80 + u) 0
       pass u = other (80 + u) (λ e. absurd (omega (arith, site))) (λ e. absurd (omega (arith, site))) (λ e. absurd (omega (arith, site)))
@@ -312,7 +201,7 @@ waits-kept p false true c g h = elim (bool (ltb 0 p)) [ inl e ↦ rw e | inr e �
 -- DELIVER of t at s changes the queue of s, which grows, and the vote of s on t: those who hold it may judge t anew
 module _ (T : Tables) (fits : Fits T) (w : Parts) (t s v : ℕ) (next : todoIn T w ≡ Deliver s) where
   other : {A : Type 0} (d : A) (l : List A) (x : A) (u r : ℕ) → r < 16 → (u ≡ t → r ≡ s → ⊥) → cell d (set l (t * 16 + s) x) u r ≡ cell d l u r
-  other d l x u r m h = cell-other d l t s u r x (next-says T w (Deliver s) fits next) m h
+  other d l x u r m h = cell-other d l t s u r x (next-says T w fits (Deliver s) next .0) m h
 
   -- nobody holds the vote of s on t yet
   votes : shared (w .carried) (siteCount T) t s ≡ false → (u r : ℕ) → r < siteCount T → (u ≡ t → r ≡ s → ⊥)
@@ -338,7 +227,7 @@ module _ (T : Tables) (fits : Fits T) (w : Parts) (t s v : ℕ) (next : todoIn T
   codes-joined l l′ k e kept here r h u x z = elim (same r s) [
     | inl q ↦
         let (a, b) = joined-excludes (getD l s 0) t u (omega (arith, close-has T (deliveredParts w t s v) u r z .txn, fits .txns)) (rw (q, here) at x) in
-        closing-get T w l k s (next-says T w (Deliver s) fits next) u a (closes e u s (λ p _. b p) (rw q at z))
+        closing-get T w l k s (next-says T w fits (Deliver s) next .0) u a (closes e u s (λ p _. b p) (rw q at z))
     | inr d ↦ closing-get T w l k r h u (rw (kept r h d) at x) (closes e u r (λ _ q. d q) z)
   ]
 
@@ -376,7 +265,7 @@ module _ (T : Tables) (fits : Fits T) (w : Parts) (t s v : ℕ) (next : todoIn T
       | inr d ↦ queue (getD order i nobody) r h (λ _ e. d e) (k .top r i h (rw (kept (64 + r) (omega arith) (omega arith) (λ e. absurd (omega (arith, site))) (λ e. absurd (omega (arith, site))) (λ e. d (omega arith))) at m))
     ];
     opened = λ i m h.
-        rw (pass-at l′ (getD order i nobody) h, pass (getD order i nobody) h (apart i (λ a. absurd (omega (arith, opener)))), ← pass-at l (getD order i nobody) h)
+        rw (passed-is l′ (getD order i nobody) h, pass (getD order i nobody) h (apart i (λ a. absurd (omega (arith, opener)))), ← passed-is l (getD order i nobody) h)
         (k .opened i (omega (arith, opener)) h);
   }
     where
@@ -384,7 +273,7 @@ module _ (T : Tables) (fits : Fits T) (w : Parts) (t s v : ℕ) (next : todoIn T
       w′ = deliveredParts w t s v
 
       site : s < 16
-      site = next-says T w (Deliver s) fits next
+      site = next-says T w fits (Deliver s) next .0
 
       -- entries of sites
       kept : (j : ℕ) → 16 ≤ j → j < 80 → (j ≡ 16 + s → ⊥) → (j ≡ 48 + s → ⊥) → (j ≡ 64 + s → ⊥) → getD l′ j 0 ≡ getD l j 0

@@ -1,9 +1,8 @@
-pub mod Laws
 pub mod Frames
 pub mod Pair
 pub mod Tried
-pub mod Order
-pub mod Positions
+pub mod Accepted
+pub mod Entries
 pub mod Stored
 pub mod Closing
 pub mod Carrying

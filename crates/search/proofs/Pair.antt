@@ -1,28 +1,25 @@
--- The first pair of sites is the giver and the taker that the search for a CARRY finds, and what the next step says of its sites.
+-- The first pair of sites is the giver and the taker that the search for a CARRY finds.
 -- Assumes nothing.
 use Prim.Native.Nat.{ℕ, _+_, _*_, _/_, _%_, _≤_, _<_}
 use mathlib.Core.Path.{_≡_, refl}
-use mathlib.Core.Bool.{Bool, true, false, cond}
+use mathlib.Core.Bool.{Bool, true, false}
 use mathlib.Core.List.{List}
 use mathlib.Core.Logic.{inl, inr}
 use native.Mathlib.Omega.{arith}
 use lib.Dec.{eqb, ltb}
 use borrow.Author.Tests.{eq-eqb, eqb-true, lt-ltb, ltb-true, ltb-false}
+use Rattle.layout.specs.Cells.{placeIn, nobody}
 use Rattle.bounded.specs.Bounded.{leastBelow}
 use Rattle.bounded.proofs.Truth.{bool, clash, same}
-use Rattle.bounded.proofs.Laws.{first-is, least-stop}
+use Rattle.bounded.proofs.Laws.{first-is, least-stop, first-none, first-has}
 use Rattle.tables.specs.Sites.{siteCount}
 use Rattle.tables.specs.Concern.{local}
 use Rattle.tables.specs.declared.Tables.{Tables}
-use Rattle.rules.specs.Cells.{placeIn, nobody}
 use Rattle.steps.specs.declared.Place.{Place}
 use Rattle.tables.specs.Fits.{Fits}
 use Rattle.refusals.specs.Refusals.{carryRefusalIn}
-use Rattle.search.specs.Search.{Parts, nowhere, closesFirstIn, firstClosingIn, firstDeliveringIn, firstToIn, firstFromIn, firstCarriedIn, todoIn}
+use Rattle.search.specs.Search.{nowhere, firstToIn, firstFromIn, firstCarriedIn}
 use Rattle.search.specs.Known.{PassedTo, firstPair}
-use Rattle.search.specs.declared.Todo.{Todo}
-use Rattle.search.specs.declared.Todo.the-variants.{Close, Deliver, Carry, Nothing}
-use Rattle.search.proofs.Laws.{first-none, first-has}
 use Rattle.search.proofs.Frames.{carry-has}
 
 module _ (T : Tables) (cast carried : List ℕ) (t : ℕ) where
@@ -91,59 +88,26 @@ module _ (T : Tables) (cast carried : List ℕ) (t : ℕ) where
         pair-before f (firstToIn T cast carried t f) k (omega arith) (to-carries f k)))
         (lt-ltb (firstToIn T cast carried t (p / 16)) nowhere (rw (pair-to l) (omega arith)))
 
+    -- where a vote can be carried there is a pair, and a giver
+    pair-there : (f s : ℕ) → carryRefusalIn T cast carried t f s ≡ 0 → firstPair T cast carried t < 256
+    pair-there f s h = let c = carry-has T cast carried t f s h in elim (bool (ltb (firstPair T cast carried t) 256)) [
+      | inl e ↦ ltb-true _ _ e
+      | inr e ↦ absurd (pair-before f s (omega (arith, c .taker)) (omega (arith, c .giver, c .taker, ltb-false (firstPair T cast carried t) 256 e)) h)
+    ]
+
+    pub pair-found : (f s : ℕ) → carryRefusalIn T cast carried t f s ≡ 0 → firstFromIn T cast carried t < nowhere
+    pair-found f s h = let l = pair-there f s h in rw (pair-from l) (omega arith)
+
     -- and where there is a giver, there is a pair
     pub from-pair : firstFromIn T cast carried t < nowhere → firstPair T cast carried t < 256
     unfolding firstFromIn
     from-pair l =
         let f = leastBelow (siteCount T) (λ f. ltb (firstToIn T cast carried t f) nowhere) nowhere in
         let s = firstToIn T cast carried t f in
-        let h = to-carries f (ltb-true s nowhere (first-has (siteCount T) (λ i. 0) (λ f. ltb (firstToIn T cast carried t f) nowhere) nowhere fits l .passes)) in
-        let c = carry-has T cast carried t f s h in
-        elim (bool (ltb (firstPair T cast carried t) 256)) [
-          | inl e ↦ ltb-true _ _ e
-          | inr e ↦ absurd (pair-before f s (omega (arith, c .taker)) (omega (arith, c .giver, c .taker, ltb-false (firstPair T cast carried t) 256 e)) h)
-        ]
+        pair-there f s (to-carries f (ltb-true s nowhere (first-has (siteCount T) (λ i. 0) (λ f. ltb (firstToIn T cast carried t f) nowhere) nowhere fits l .passes)))
 
 -- a transaction that the search finds has a pair
 pub carried-pair : (T : Tables) → Fits T → (places : List Place) (cast carried : List ℕ) (t : ℕ) → t ≡ firstCarriedIn T places cast carried → t < nobody → firstPair T cast carried t < 256
 unfolding firstCarriedIn
 carried-pair T fits places cast carried t e l = from-pair T cast carried t (fits .sites)
     (rw e (ltb-true _ _ (first-has (T .txns) (placeIn places) (λ t. ltb (firstFromIn T cast carried t) nowhere) nobody (fits .txns) (rw e at l) .passes)))
-
--- ---- the next step
-
--- CLOSE and DELIVER are at a site, CARRY is between the first pair of its transaction
-abbrev pub Says : Tables → Parts → Todo → Type 0
-Says T w (Close t s) = s < 16
-Says T w (Deliver s) = s < 16
-Says T w (Carry t from to) = (from < 16) × (to < 16) × (firstPair T (w .cast) (w .carried) t ≡ from * 16 + to)
-Says T w Nothing = Unit {0}
-
-todo-says : (T : Tables) (w : Parts) → Fits T → Says T w (todoIn T w)
-unfolding todoIn
-todo-says T w fits = by (ltb (firstClosingIn T w) nowhere) (ltb d nowhere) (ltb t nobody) refl refl refl
-  where
-    d : ℕ
-    d = firstDeliveringIn T (w .places) (w .delivered) (w .closed)
-
-    t : ℕ
-    t = firstCarriedIn T (w .places) (w .cast) (w .carried)
-
-    f : ℕ
-    f = firstFromIn T (w .cast) (w .carried) t
-
-    carries : t < nobody → Says T w (Carry t f (firstToIn T (w .cast) (w .carried) t f))
-    carries l =
-        let p = firstPair T (w .cast) (w .carried) t in
-        let q : p < 256 = carried-pair T fits (w .places) (w .cast) (w .carried) t refl l in
-        rw (pair-from T (w .cast) (w .carried) t (fits .sites) q, pair-to T (w .cast) (w .carried) t (fits .sites) q) (omega arith, omega arith, omega arith)
-
-    by : (a b c : Bool) → ltb (firstClosingIn T w) nowhere ≡ a → ltb d nowhere ≡ b → ltb t nobody ≡ c
-        → Says T w (cond a (Close (closesFirstIn T w (firstClosingIn T w)) (firstClosingIn T w)) (cond b (Deliver d) (cond c (Carry t f (firstToIn T (w .cast) (w .carried) t f)) Nothing)))
-    by true b c p q r = ltb-true _ _ p
-    by false true c p q r = ltb-true _ _ q
-    by false false true p q r = carries (ltb-true _ _ r)
-    by false false false p q r = tt
-
-pub next-says : (T : Tables) (w : Parts) (x : Todo) → Fits T → todoIn T w ≡ x → Says T w x
-next-says T w x fits e = rw e at (todo-says T w fits)

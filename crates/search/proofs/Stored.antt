@@ -10,16 +10,16 @@ use lib.Dec.{eqb, ltb}
 use lib.ListN.{length, getD, set, List·getD-eq-default}
 use lib.Seq.{getD-set-same, getD-set-other}
 use borrow.Author.Tests.{eqb-true, ltb-true, ltb-false}
+use Rattle.order.specs.Order.{waitsAt, queuedAt}
 use Rattle.bounded.proofs.Truth.{bool, clash, same}
+use Rattle.bounded.proofs.Lists.{stored}
 use Rattle.tables.specs.declared.Tables.{Tables}
 use Rattle.layout.specs.Layout.{portion}
 use Rattle.layout.proofs.Laws.{portion-length, portion-at}
-use Rattle.rules.specs.Cells.{nobody}
-use Rattle.rules.specs.Queue.{queuedIn}
+use Rattle.layout.specs.Cells.{nobody}
 use Rattle.refusals.specs.Refusals.{deliverRefusalIn}
 use Rattle.search.specs.Search.{Parts}
-use Rattle.search.specs.Known.{any, KnowsAt, PassedTo, passedIn, openAt, waitsIn, Knows, Ranged}
-use Rattle.search.proofs.Laws.{stored}
+use Rattle.search.specs.Known.{any, KnowsAt, PassedTo, passedIn, lowAt, openAt, Knows, Ranged}
 use Rattle.search.proofs.Tried.{excludes-none}
 
 -- an entry after a store is what was stored or what it was
@@ -45,9 +45,9 @@ module _ (T : Tables) (w : Parts) (order l : List ℕ) (k : Knows T w order l) (
   knows-set : ((s : ℕ) → s < 16 → s ≡ j → KnowsAt T w s v)
       → ((s : ℕ) → s < 16 → 16 + s ≡ j → v ≡ 1 → deliverRefusalIn T (w .places) (w .delivered) (w .closed) s ≡ 0 → ⊥)
       → ((t : ℕ) → t < 128 → 80 + t ≡ j → PassedTo T (w .cast) (w .carried) t v × ((i : ℕ) → i < openAt l → getD order i nobody ≡ t → 256 ≤ v))
-      → ((s : ℕ) → s < 16 → 32 + s ≡ j → (i : ℕ) → i < v → waitsIn T w s (getD order i nobody) ≡ false)
-      → ((s : ℕ) → s < 16 → 48 + s ≡ j → (i : ℕ) → i < v → queuedIn (w .delivered) (w .closed) s (getD order i nobody) ≡ false)
-      → ((s : ℕ) → s < 16 → 64 + s ≡ j → (i : ℕ) → v ≤ i → queuedIn (w .delivered) (w .closed) s (getD order i nobody) ≡ false)
+      → ((s : ℕ) → s < 16 → 32 + s ≡ j → (i : ℕ) → i < v → waitsAt T (w .places) (w .delivered) order s i ≡ false)
+      → ((s : ℕ) → s < 16 → 48 + s ≡ j → (i : ℕ) → i < v → queuedAt (w .delivered) (w .closed) order s i ≡ false)
+      → ((s : ℕ) → s < 16 → 64 + s ≡ j → (i : ℕ) → v ≤ i → queuedAt (w .delivered) (w .closed) order s i ≡ false)
       → (208 ≡ j → (i : ℕ) → i < v → getD order i nobody < nobody → 256 ≤ getD (passedIn l) (getD order i nobody) 0)
       → Knows T w order (set l j v)
   knows-set code stuck passed next low top opened = record {
@@ -58,9 +58,9 @@ module _ (T : Tables) (w : Parts) (order l : List ℕ) (k : Knows T w order l) (
         (λ s h. clash h refl)
         (k .stuck);
     passed = after-each l j v b (λ p. p) 80 128 0 (PassedTo T (w .cast) (w .carried)) (λ t h e. passed t h e .0) (λ t p h. absurd (omega arith)) (k .passed);
-    next = λ s i h. after l j v b (32 + s) (λ x. i < x → waitsIn T w s (getD order i nobody) ≡ false) (λ e. next s h e i) (k .next s i h);
-    low = λ s i h. after l j v b (48 + s) (λ x. i < x → queuedIn (w .delivered) (w .closed) s (getD order i nobody) ≡ false) (λ e. low s h e i) (k .low s i h);
-    top = λ s i h. after l j v b (64 + s) (λ x. x ≤ i → queuedIn (w .delivered) (w .closed) s (getD order i nobody) ≡ false) (λ e. top s h e i) (k .top s i h);
+    next = λ s i h. after l j v b (32 + s) (λ x. i < x → waitsAt T (w .places) (w .delivered) order s i ≡ false) (λ e. next s h e i) (k .next s i h);
+    low = λ s i h. after l j v b (48 + s) (λ x. i < x → queuedAt (w .delivered) (w .closed) order s i ≡ false) (λ e. low s h e i) (k .low s i h);
+    top = λ s i h. after l j v b (64 + s) (λ x. x ≤ i → queuedAt (w .delivered) (w .closed) order s i ≡ false) (λ e. top s h e i) (k .top s i h);
     opened = λ i h c. rw (portion-at 0 (λ p. p) (set l j v) 80 128 (getD order i nobody) 0 c) (opens i c h);
   }
     where
@@ -79,14 +79,27 @@ module _ (T : Tables) (w : Parts) (order l : List ℕ) (k : Knows T w order l) (
   pub knows-stuck : 16 + s < length l → (v ≡ 1 → deliverRefusalIn T (w .places) (w .delivered) (w .closed) s ≡ 0 → ⊥) → Knows T w order (set l (16 + s) v)
   knows-stuck b new = knows-set T w order l k (16 + s) v b (λ r h e. absurd (omega arith)) (λ r h e. let q : r ≡ s = omega arith in rw q new) (λ r h e. absurd (omega arith)) (λ r h e. absurd (omega arith)) (λ r h e. absurd (omega arith)) (λ r h e. absurd (omega arith)) (λ e. absurd (omega arith))
 
-  pub knows-next : 32 + s < length l → ((i : ℕ) → i < v → waitsIn T w s (getD order i nobody) ≡ false) → Knows T w order (set l (32 + s) v)
+  pub knows-next : 32 + s < length l → ((i : ℕ) → i < v → waitsAt T (w .places) (w .delivered) order s i ≡ false) → Knows T w order (set l (32 + s) v)
   knows-next b new = knows-set T w order l k (32 + s) v b (λ r h e. absurd (omega arith)) (λ r h e. absurd (omega arith)) (λ r h e. absurd (omega arith)) (λ r h e. let q : r ≡ s = omega arith in rw q new) (λ r h e. absurd (omega arith)) (λ r h e. absurd (omega arith)) (λ e. absurd (omega arith))
 
-  pub knows-low : 48 + s < length l → ((i : ℕ) → i < v → queuedIn (w .delivered) (w .closed) s (getD order i nobody) ≡ false) → Knows T w order (set l (48 + s) v)
+  pub knows-low : 48 + s < length l → ((i : ℕ) → i < v → queuedAt (w .delivered) (w .closed) order s i ≡ false) → Knows T w order (set l (48 + s) v)
   knows-low b new = knows-set T w order l k (48 + s) v b (λ r h e. absurd (omega arith)) (λ r h e. absurd (omega arith)) (λ r h e. absurd (omega arith)) (λ r h e. absurd (omega arith)) (λ r h e. let q : r ≡ s = omega arith in rw q new) (λ r h e. absurd (omega arith)) (λ e. absurd (omega arith))
 
-  pub knows-top : 64 + s < length l → ((i : ℕ) → v ≤ i → queuedIn (w .delivered) (w .closed) s (getD order i nobody) ≡ false) → Knows T w order (set l (64 + s) v)
+  pub knows-top : 64 + s < length l → ((i : ℕ) → v ≤ i → queuedAt (w .delivered) (w .closed) order s i ≡ false) → Knows T w order (set l (64 + s) v)
   knows-top b new = knows-set T w order l k (64 + s) v b (λ r h e. absurd (omega arith)) (λ r h e. absurd (omega arith)) (λ r h e. absurd (omega arith)) (λ r h e. absurd (omega arith)) (λ r h e. absurd (omega arith)) (λ r h e. let q : r ≡ s = omega arith in rw q new) (λ e. absurd (omega arith))
+
+-- where the queue of s was looked for from where it was known to start
+module _ (T : Tables) (w : Parts) (order l : List ℕ) (k : Knows T w order l) (s : ℕ) (low : s < 16) (p : ℕ) (none : (i : ℕ) → lowAt l s ≤ i → i < p → queuedAt (w .delivered) (w .closed) order s i ≡ false) where
+  -- it starts no sooner than at p
+  pub knows-below : (i : ℕ) → i < p → queuedAt (w .delivered) (w .closed) order s i ≡ false
+  knows-below i b = elim (bool (ltb i (lowAt l s))) [
+    | inl e ↦ k .low s i low (ltb-true i (lowAt l s) e)
+    | inr e ↦ none i (ltb-false i (lowAt l s) e) b
+  ]
+
+  -- that is known too
+  pub knows-moved : 48 + s < length l → Knows T w order (set l (48 + s) p)
+  knows-moved b = knows-low T w order l k s p low b knows-below
 
 -- of transaction t the pairs passed, and the first position that may have pairs left
 module _ (T : Tables) (w : Parts) (order l : List ℕ) (k : Knows T w order l) (v : ℕ) where

@@ -1,23 +1,23 @@
 -- What SETTLE remembers of tries that were refused, so as not to try again.
 use Prim.Native.Nat.{ℕ, zero, suc, _+_, _*_, _/_, _%_, _≤_, _<_}
-use mathlib.Core.Bool.{Bool, false, true, not, _||_, cond}
+use mathlib.Core.Bool.{Bool, false, true, _||_, not, cond}
 use mathlib.Core.List.{List}
 use mathlib.Core.Path.{_≡_}
 use lib.Dec.{eqb}
 use lib.ListN.{getD, set}
+use Rattle.order.specs.Order.{Ordered, waitsAt, queuedAt}
 use Rattle.bounded.specs.Bounded.{anyBelow, leastBelow}
 use Rattle.keys.specs.Keys.{member, adding}
-use Rattle.tables.specs.Concern.{concerns}
+use Rattle.tables.specs.Lists.{writeCount, writeKey}
+use Rattle.tables.specs.Fits.{Fits}
 use Rattle.tables.specs.declared.Tables.{Tables}
 use Rattle.layout.specs.Layout.{portion}
-use Rattle.rules.specs.Cells.{placeIn, cell, nobody}
-use Rattle.rules.specs.Queue.{queuedIn, waits}
+use Rattle.layout.specs.Cells.{cell, versionIn, nobody}
 use Rattle.steps.specs.declared.Place.{Place}
 use Rattle.steps.specs.declared.Version.{Version}
 use Rattle.refusals.specs.Refusals.{deliverRefusalIn, carryRefusalIn}
 use Rattle.search.specs.Search.{Parts, parts, closing, todoIn}
-use Rattle.search.specs.Order.{Ordered}
-use Rattle.search.specs.declared.Todo.the-variants.{Carry}
+use Rattle.search.specs.declared.Todo.the-variants.{Close, Carry}
 
 -- any transaction
 abbrev pub any : ℕ
@@ -76,19 +76,15 @@ topAt l s = getD l (64 + s) 0
 abbrev pub openAt : List ℕ → ℕ
 openAt l = getD l 208 0
 
--- t waits at s
-abbrev pub waitsIn : Tables → Parts → ℕ → ℕ → Bool
-waitsIn T w s t = waits (placeIn (w .places) t) (cell false (w .delivered) t s) (concerns T t s)
-
 -- what l says of the transactions in order is so
 pub record Knows (T : Tables) (w : Parts) (order l : List ℕ) : Type 0 where
   pub ordered : Ordered (w .places) (T .txns) order
   pub closing : KnowsClosing T w (codesIn l)
   pub stuck : KnowsStuck T (w .places) (w .delivered) (w .closed) (stuckIn l)
   pub passed : KnowsPassed T (w .cast) (w .carried) (passedIn l)
-  pub next : (s i : ℕ) → s < 16 → i < nextAt l s → waitsIn T w s (getD order i nobody) ≡ false
-  pub low : (s i : ℕ) → s < 16 → i < lowAt l s → queuedIn (w .delivered) (w .closed) s (getD order i nobody) ≡ false
-  pub top : (s i : ℕ) → s < 16 → topAt l s ≤ i → queuedIn (w .delivered) (w .closed) s (getD order i nobody) ≡ false
+  pub next : (s i : ℕ) → s < 16 → i < nextAt l s → waitsAt T (w .places) (w .delivered) order s i ≡ false
+  pub low : (s i : ℕ) → s < 16 → i < lowAt l s → queuedAt (w .delivered) (w .closed) order s i ≡ false
+  pub top : (s i : ℕ) → s < 16 → topAt l s ≤ i → queuedAt (w .delivered) (w .closed) order s i ≡ false
   pub opened : (i : ℕ) → i < openAt l → getD order i nobody < nobody → 256 ≤ getD (passedIn l) (getD order i nobody) 0
 
 -- the numbers that stand for positions and pairs are such
@@ -108,6 +104,14 @@ joined c t = cond (eqb c nobody || eqb c t) t any
 
 abbrev pub closedParts : Parts → List Version → ℕ → ℕ → ℕ → Parts
 closedParts w versions t s c = parts versions (w .places) (w .delivered) (set (w .closed) (t * 16 + s) c) (w .cast) (w .carried)
+
+-- CLOSE at s, which leaves these delivered and closed, and elsewhere the versions: what is known turns from l to l′
+abbrev pub Closed : List ℕ → List ℕ → List ℕ → ℕ → List Bool → List ℕ → Type 0
+Closed order l l′ s delivered closed =
+    (T : Tables) (w : Parts) (versions : List Version) (t c : ℕ) → Fits T → ((u i : ℕ) → u < T .txns → i < writeCount T u → writeKey T u i < 64) → todoIn T w ≡ Close t s → 0 < c
+    → w .delivered ≡ delivered → set (w .closed) (t * 16 + s) c ≡ closed
+    → ((r x : ℕ) → (r ≡ s → ⊥) → x < 64 → versionIn versions r x ≡ versionIn (w .versions) r x)
+    → Knows T w order l → Knows T (closedParts w versions t s c) order l′
 
 abbrev pub deliveredParts : Parts → ℕ → ℕ → ℕ → Parts
 deliveredParts w t s v = parts (w .versions) (w .places) (set (w .delivered) (t * 16 + s) true) (w .closed) (set (w .cast) (t * 16 + s) v) (w .carried)

@@ -1,3 +1,2 @@
 pub mod Search
-pub mod Order
 pub mod Known

@@ -6,7 +6,8 @@ use lib.Dec.{eqb, ltb}
 use Rattle.bounded.specs.Bounded.{firstBelow, leastBelow}
 use Rattle.tables.specs.Sites.{siteCount}
 use Rattle.tables.specs.declared.Tables.{Tables}
-use Rattle.rules.specs.Cells.{placeIn, nobody}
+use Rattle.layout.specs.Layout.{theVersions, thePlaces, theDelivered, theClosed, theCast}
+use Rattle.layout.specs.Cells.{placeIn, nobody}
 use Rattle.refusals.specs.Refusals.{deliverRefusalIn, carryRefusalIn, closeRefusalIn}
 use Rattle.steps.specs.declared.Place.{Place}
 use Rattle.steps.specs.declared.Version.{Version}
@@ -31,6 +32,10 @@ parts versions places delivered closed cast carried = record {
   cast = cast;
   carried = carried;
 }
+
+-- of what is lent
+abbrev pub lent : List ℕ → List Bool → List ℕ → List ℕ → Parts
+lent numbers flags marks carried = parts (theVersions numbers) (thePlaces numbers) (theDelivered flags) (theClosed marks) (theCast marks) carried
 
 abbrev pub closing : Tables → Parts → ℕ → ℕ → ℕ
 closing T w t s = closeRefusalIn T (w .versions) (w .places) (w .delivered) (w .closed) (w .cast) (w .carried) t s

@@ -1,6 +1,6 @@
 // What can be asked of the machine and what it answers.
 ghost use mathlib.Core.Path.{_≡_};
-ghost use Rattle.steps.specs.Answers.{numbersOf};
+ghost use Rattle.steps.specs.Answers.{numbers, numbersOf};
 
 // How often a key was written, the first value counting as one; and a transaction's place in the order, 0 for none.
 pub struct Version(pub u32);
@@ -33,45 +33,27 @@ pub struct Numbers {
     pub second: u32,
 }
 
+fn listed(code: u32, first: u32, second: u32) -> Numbers
+    ensures { λ r. ⌜ r ≡ numbers code first second ⌝ }
+{
+    Numbers {
+        code,
+        first,
+        second,
+    }
+}
+
 // An answer's number and its two values.
 pub fn numbers_of(a: Answer) -> Numbers
     ensures { λ r. ⌜ r ≡ numbersOf a ⌝ }
 {
     match a {
-        Answer::Read(version, value) => Numbers {
-            code: 0,
-            first: version.0,
-            second: value,
-        },
-        Answer::Submitted(place) => Numbers {
-            code: 0,
-            first: place.0,
-            second: 0,
-        },
-        Answer::Delivered { t, vote } => Numbers {
-            code: 0,
-            first: t as u32,
-            second: vote as u32,
-        },
-        Answer::Carried(vote) => Numbers {
-            code: 0,
-            first: vote as u32,
-            second: 0,
-        },
-        Answer::Closed(verdict) => Numbers {
-            code: 0,
-            first: verdict as u32,
-            second: 0,
-        },
-        Answer::Settled(count) => Numbers {
-            code: 0,
-            first: count,
-            second: 0,
-        },
-        Answer::Refused(n) => Numbers {
-            code: n as u32,
-            first: 0,
-            second: 0,
-        },
+        Answer::Read(version, value) => listed(0, version.0, value),
+        Answer::Submitted(place) => listed(0, place.0, 0),
+        Answer::Delivered { t, vote } => listed(0, t as u32, vote as u32),
+        Answer::Carried(vote) => listed(0, vote as u32, 0),
+        Answer::Closed(verdict) => listed(0, verdict as u32, 0),
+        Answer::Settled(count) => listed(0, count, 0),
+        Answer::Refused(n) => listed(n as u32, 0, 0),
     }
 }

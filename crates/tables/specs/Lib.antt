@@ -4,3 +4,4 @@ pub mod Sites
 pub mod Concern
 pub mod Judge
 pub mod Fits
+pub mod First

@@ -4,7 +4,10 @@ ghost use Prim.Native.Nat.{_*_, _≤_, _<_};
 ghost use Rattle.tables.specs.Empty.{noTables};
 ghost use Rattle.tables.specs.Lists.{inRow, twice, present, readCount, writeCount};
 ghost use Rattle.tables.specs.Sites.{sitesIn, keysFrom};
-ghost use Rattle.bounded.specs.Bounded.{firstOf};
+ghost use mathlib.Core.Bool.{cond};
+ghost use Rattle.bounded.specs.Bounded.{firstOf, listFrom};
+ghost use Rattle.keys.specs.Keys.{member};
+ghost use Rattle.tables.specs.First.{firstAt};
 ghost use Rattle.tables.specs.Judge.{keysRefusal, sizeRefusal, groupRefusal, countRefusal, keyRefusal, txnRefusal, someGroup, endRefusal, judge};
 
 pub struct Tables {
@@ -197,6 +200,17 @@ fn some_group(masks: &[u64; 8], n: u8, k: u8) -> bool
     false
 }
 
+// The first value x of key k, where it is in the set m; else 0.
+fn held_value(m: u64, k: usize, x: u32) -> u32
+    requires { ⌜ k < 64 ⌝ }
+    ensures { λ r. ⌜ r ≡ cond (member m k) x 0 ⌝ }
+{
+    if keys::has_key(m, k as u8) {
+        return x;
+    }
+    0
+}
+
 impl Tables {
     // The refusal that the keys of transaction t have.
     pub fn key_refusal(self, t: usize) -> u8
@@ -308,5 +322,23 @@ impl Tables {
             return t;
         }
         self.end_refusal()
+    }
+
+    // ---- the first store
+
+    // The first values, of site s and key k at s * 64 + k, where s holds k.
+    pub fn first_store(self) -> [u32; 1024]
+        requires { ⌜ self .groups ≤ 8 ⌝ }
+        ensures { λ r. ⌜ r ≡ listFrom 0 1024 (firstAt self) ⌝ }
+    {
+        let mut values = [0u32; 1024];
+        let mut j: usize = 0;
+        while j < 1024 {
+            let k = j % 64;
+            let m = site_keys(&self.sizes, &self.masks, self.groups, j / 64);
+            values[j] = held_value(m, k, self.first[k]);
+            j += 1;
+        }
+        values
     }
 }

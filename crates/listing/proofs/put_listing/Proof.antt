@@ -1,11 +1,12 @@
 -- `listing::put_listing` meets its contract. The fresh state is usable, and so is the state at the run's end; the lines of the run, then those of the state.
+use Rattle.machine.proofs.Kept.{fresh-runs, fresh-places}
 use Rattle.text.proofs.Laws.{then}
 use Rattle.listing.specs.Listing.{linesOf}
-use Rattle.listing.proofs.Kept.{fresh-runs, fresh-places, end-usable}
 use native.Mathlib.Omega.{arith}
 use borrow.Author.Needs.{needs}
 use Rattle.listing.proofs.put_listing.Statement.{statement}
 use Rattle.listing.proofs.put_listing.Tie as tie
+use Rattle.listing.proofs.Laws.{end-usable}
 
 fresh-requires : tie.Need-fresh-requires
 fresh-requires c κs = search needs

@@ -2,12 +2,13 @@
 use Prim.Native.Nat.{_-_}
 use mathlib.Core.Path.{_≡_, sym, _∙_}
 use lib.ListN.{length}
-use Rattle.bounded.proofs.Laws.{list-length}
+use Rattle.bounded.proofs.Lists.{list-length}
 use Rattle.records.proofs.Laws.{whole-lies}
 use Rattle.text.proofs.Laws.{same-length as wrote-length}
 use Rattle.machine.specs.Lent.{stateOf}
 use Rattle.machine.proofs.Laws.{usable-has, usable-fits}
-use Rattle.listing.proofs.Laws.{held, Running, starts, goes, ends}
+use Rattle.machine.proofs.Lent.{holds-all}
+use Rattle.listing.proofs.Laws.{Running, starts, goes, ends}
 use native.Mathlib.Omega.{arith}
 use borrow.Author.Needs.{needs}
 use Rattle.listing.proofs.run.Statement.{statement}
@@ -33,7 +34,9 @@ marks-of-requires c κs = search needs
 
 -- what was laid out is the state
 laid : (c : tie.After-carried Inv-loop μ-loop) → stateOf (c .before .before .before .before .before .before .before .before .before .before .before .before .before .before .args .t1 .tables) (c .before .before .before .before .before .before .before .before .before .numbers .result) (c .before .before .before .before .before .flags-of .result) (c .before .marks-of .result) (c .before .before .before .before .before .before .before .before .before .before .before .before .before .before .args .t1 .carried) ≡ c .before .before .before .before .before .before .before .before .before .before .before .before .before .before .args .t1
-laid c = held (c .before .before .before .before .before .before .before .before .before .before .before .before .before .before .args .t1) (c .before .before .before .before .before .before .before .before .before .numbers .result) (c .before .before .before .before .before .flags-of .result) (c .before .marks-of .result) (c .before .before .before .before .before .before .before .before .before .numbers .ensures) (c .before .before .before .before .before .flags-of .ensures) (c .before .marks-of .ensures)
+laid c =
+    let n = c .before .before .before .before .before .before .before .before .before .numbers .ensures in
+    holds-all (c .before .before .before .before .before .before .before .before .before .before .before .before .before .before .args .t1) (c .before .before .before .before .before .before .before .before .before .numbers .result) (c .before .before .before .before .before .flags-of .result) (c .before .marks-of .result) (n .0) (n .1 .0) (n .1 .1) (c .before .before .before .before .before .flags-of .ensures) (c .before .marks-of .ensures)
 
 loop-holds : tie.Need-loop-holds Inv-loop μ-loop
 loop-holds c = starts (laid c) (c .before .before .before .before .before .before .before .before .before .before .before .before .before .before .pre .0 .0) (list-length _ _ _)

@@ -8,7 +8,8 @@ use Rattle.tables.specs.declared.Tables.{Tables}
 use Rattle.plan.specs.Plan.{txnsOf, sitesOf, Laid}
 use Rattle.machine.specs.Lent.{stateOf}
 use Rattle.machine.specs.declared.State.{State}
-use Rattle.machine.proofs.Close.{close-has}
+use Rattle.search.proofs.Frames.{close-has}
+use Rattle.machine.specs.Settle.{partsOf}
 use Rattle.machine.proofs.Stores.{close-lent}
 use Rattle.machine.proofs.close_at.Statement.{statement}
 use Rattle.machine.proofs.close_at.Tie as tie
@@ -23,7 +24,7 @@ laid c = c .pre .1 .0 .0 .laid
 low : (c : tie.Start) → (c .args .t < txnsOf (c .args .plan .now)) × (c .args .s < sitesOf (c .args .plan .now))
 low c =
     let (T, (r, z)) = c .pre in
-    let k = close-has (st c T) (c .args .t) (c .args .s) z in
+    let k = close-has T (partsOf (st c T)) (c .args .t) (c .args .s) z in
     (omega (arith, k .txn, r .0 .txns), omega (arith, k .site, r .0 .sites))
 
 -- the cell is in the table
@@ -38,7 +39,7 @@ commit-requires c κs =
     let o = c .before .before .before .before in
     let (T, (r, z)) = o .pre in
     let v = c .before .before .verdict .ensures T (r .0) in
-    ((T, (o .args .flags .now, (o .args .marks .now, (o .args .carried .now, (r, close-has (st o T) (o .args .t) (o .args .s) z .room (sym v ∙ c .before .if1 .taken)))))), low o)
+    ((T, (o .args .flags .now, (o .args .marks .now, (o .args .carried .now, (r, close-has T (partsOf (st o T)) (o .args .t) (o .args .s) z .room (sym v ∙ c .before .if1 .taken)))))), low o)
 
 mul-put-mark : tie.Need-mul-put-mark
 mul-put-mark c = record { fits = omega (arith, inside (c .before .before .before .before)) }

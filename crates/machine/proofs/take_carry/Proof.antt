@@ -1,7 +1,6 @@
 -- `take_carry` meets its contract. With no refusal t is a transaction and the two are sites, and the store is that of `withCarried`.
 use Prim.Native.Nat.{_<_}
 use mathlib.Core.Path.{_≡_, sym, _∙_}
-use mathlib.Core.List.{[]}
 use native.Mathlib.Omega.{arith}
 use denote.Ref.{now}
 use Rattle.tables.specs.declared.Tables.{Tables}
@@ -11,7 +10,8 @@ use Rattle.refusals.specs.Refusals.{carryRefusalIn}
 use Rattle.machine.specs.Refusals.{refusal}
 use Rattle.machine.specs.Lent.{stateOf}
 use Rattle.steps.specs.declared.Step.the-variants.{Carry}
-use Rattle.machine.proofs.Carry.{carry-has}
+use Rattle.search.proofs.Frames.{carry-has}
+use Rattle.layout.specs.Layout.{theCast}
 use Rattle.machine.proofs.Lent.{refuses, carry-taken}
 use borrow.Author.Needs.{needs}
 use Rattle.machine.proofs.take_carry.Statement.{statement}
@@ -26,7 +26,7 @@ inside : (c : tie.Else1) → (c .before .before .before .args .t < 128) × (c .b
 inside c =
     let T = c .before .before .before .pre .0 in
     let p = c .before .before .before .pre .1 in
-    let k = carry-has (stateOf T [] [] (now (c .before .before .before .args .marks)) (now (c .before .before .before .args .carried))) _ _ _ (ok c T p) in
+    let k = carry-has T (theCast (now (c .before .before .before .args .marks))) (now (c .before .before .before .args .carried)) _ _ _ (ok c T p) in
     (omega (arith, k .txn, p .fits .txns), omega (arith, k .giver, p .fits .sites), omega (arith, k .taker, p .fits .sites))
 
 carry-refusal-requires : tie.Need-carry-refusal-requires

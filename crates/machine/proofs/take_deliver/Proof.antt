@@ -3,11 +3,11 @@ use Prim.Native.Nat.{_<_}
 use mathlib.Core.Path.{_≡_, sym, ap, _∙_}
 use native.Mathlib.Omega.{arith}
 use denote.Ref.{now}
+use Rattle.queues.specs.Queue.{nextOf}
 use Rattle.tables.specs.Sites.{siteCount}
 use Rattle.tables.specs.declared.Tables.{Tables}
 use Rattle.plan.specs.Plan.{Plan}
 use Rattle.layout.specs.Layout.{thePlaces, theDelivered, theClosed}
-use Rattle.rules.specs.Asked.{nextOf}
 use Rattle.refusals.specs.Refusals.{deliverRefusalIn}
 use Rattle.machine.specs.Refusals.{refusal}
 use Rattle.machine.specs.Lent.{stateOf}

@@ -4,7 +4,7 @@ use mathlib.Core.Path.{_≡_, refl}
 use native.Mathlib.Nat.{zero-add}
 use native.Mathlib.Omega.{arith}
 use borrow.Author.Needs.{needs}
-use Rattle.records.specs.Rows.{row}
+use Rattle.records.specs.Number.{row}
 use Rattle.records.proofs.Laws.{row-up}
 use Rattle.records.proofs.first_values.Statement.{statement}
 use Rattle.records.proofs.first_values.Tie as tie

@@ -1,9 +1,9 @@
 -- Each `return` by what was found and the tests that led there; what is not whole is short or cut.
 use mathlib.Core.Path.{sym}
 use borrow.Author.Needs.{needs}
-use Rattle.records.proofs.Fine.{not-whole, short}
 use Rattle.records.proofs.judge.Statement.{statement}
 use Rattle.records.proofs.judge.Tie as tie
+use Rattle.records.proofs.Good.{not-whole, short}
 
 enum-known-found : tie.Need-enum-known-found
 enum-known-found c = search needs

@@ -4,8 +4,8 @@ use mathlib.Core.Path.{_≡_, refl}
 use native.Mathlib.Numerals.{unary-clauses}
 use native.Mathlib.Omega.{arith}
 use borrow.Author.Needs.{needs}
-use Rattle.records.specs.Rows.{row}
-use Rattle.records.proofs.Laws.{row-up, byte, step-in, step-more}
+use Rattle.records.specs.Number.{row}
+use Rattle.records.proofs.Laws.{byte, row-up, step-in, step-more}
 use Rattle.records.proofs.key_row.Statement.{statement}
 use Rattle.records.proofs.key_row.Tie as tie
 

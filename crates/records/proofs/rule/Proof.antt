@@ -22,9 +22,6 @@ right : ℕ → ℕ → Bool
 unfolding ruleOf
 right k x = eqb x (ruleOf k)
 
-wide-requires : tie.Need-wide-requires
-wide-requires c κs = search needs
-
 mul-result : tie.Need-mul-result
 mul-result c = search needs
 
@@ -34,11 +31,11 @@ array-read-result c = search needs
 returns : tie.Need-returns
 unfolding table right
 returns c =
-    let t = c .before .before .args .tag in
-    rw (c .wide .ensures .0) (eqb→eq (getD table t 0) (ruleOf t) (at right table tt t (omega arith)))
+    let t = c .before .args .tag in
+    eqb→eq (getD table t 0) (ruleOf t) (at right table tt t (omega arith))
 
 returns-2 : tie.Need-returns-2
 returns-2 c = sym (rule-past _ (c .if1 .left))
 
 pub rule-spec : {M : Type 1} → statement M
-rule-spec = tie.close (tie.spec wide-requires mul-result array-read-result returns returns-2)
+rule-spec = tie.close (tie.spec mul-result array-read-result returns returns-2)

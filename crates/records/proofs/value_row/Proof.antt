@@ -3,7 +3,7 @@ use Prim.Native.Nat.{_≤_, _-_}
 use mathlib.Core.Path.{_≡_, refl}
 use native.Mathlib.Omega.{arith}
 use borrow.Author.Needs.{needs}
-use Rattle.records.specs.Rows.{row}
+use Rattle.records.specs.Number.{row}
 use Rattle.records.proofs.Laws.{row-up}
 use Rattle.records.proofs.value_row.Statement.{statement}
 use Rattle.records.proofs.value_row.Tie as tie

@@ -11,7 +11,7 @@ use borrow.Author.Needs.{needs}
 use Rattle.tables.specs.declared.Tables.{Tables}
 use Rattle.plan.specs.Plan.{txnsOf, Plan}
 use Rattle.layout.specs.Layout.{theVersions, thePlaces, theDelivered, theClosed, theCast}
-use Rattle.rules.proofs.Parts.{closed-at, delivered-at}
+use Rattle.layout.proofs.Cells.{closed-at, delivered-at}
 use Rattle.refusals.specs.Refusals.{verdictRefusalIn, closeRefusalIn}
 use Rattle.refusals.proofs.close_refusal.Statement.{statement}
 use Rattle.refusals.proofs.close_refusal.Tie as tie

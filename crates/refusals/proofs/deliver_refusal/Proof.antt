@@ -6,10 +6,10 @@ use lib.Dec.{eqb}
 use denote.Ref.{now}
 use borrow.Author.Tests.{eq-eqb, ne-eqb, le-leb, lt-leb}
 use borrow.Author.Needs.{needs}
+use Rattle.queues.specs.Queue.{blockedOf}
 use Rattle.tables.specs.declared.Tables.{Tables}
 use Rattle.plan.specs.Plan.{Plan}
 use Rattle.layout.specs.Layout.{thePlaces, theDelivered, theClosed}
-use Rattle.rules.specs.Asked.{blockedOf}
 use Rattle.refusals.specs.Refusals.{deliverRefusalIn}
 use Rattle.refusals.proofs.Next.{next-low}
 use Rattle.refusals.proofs.deliver_refusal.Statement.{statement}

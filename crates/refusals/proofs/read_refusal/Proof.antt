@@ -10,7 +10,7 @@ use borrow.Author.Needs.{needs}
 use Rattle.tables.specs.declared.Tables.{Tables}
 use Rattle.plan.specs.Plan.{Plan}
 use Rattle.layout.specs.Layout.{theRecorded}
-use Rattle.rules.proofs.Parts.{recorded-at}
+use Rattle.layout.proofs.Cells.{recorded-at}
 use Rattle.refusals.specs.Refusals.{readRefusalIn}
 use Rattle.refusals.proofs.read_refusal.Statement.{statement}
 use Rattle.refusals.proofs.read_refusal.Tie as tie

@@ -12,8 +12,8 @@ use Rattle.bounded.specs.Bounded.{allBelow}
 use Rattle.tables.specs.declared.Tables.{Tables}
 use Rattle.plan.specs.Plan.{readsOf, txnsOf, Plan}
 use Rattle.layout.specs.Layout.{thePlaces, theRecorded}
-use Rattle.rules.specs.Votes.{recordedIn}
-use Rattle.rules.proofs.Parts.{place-at}
+use Rattle.layout.specs.Cells.{recordedIn}
+use Rattle.layout.proofs.Cells.{place-at}
 use Rattle.refusals.specs.Refusals.{submitRefusalIn}
 use Rattle.refusals.proofs.submit_refusal.Statement.{statement}
 use Rattle.refusals.proofs.submit_refusal.Tie as tie

@@ -9,7 +9,7 @@ use borrow.Author.Needs.{needs}
 use Rattle.tables.specs.declared.Tables.{Tables}
 use Rattle.plan.specs.Plan.{Plan}
 use Rattle.layout.specs.Layout.{theCast}
-use Rattle.rules.proofs.Parts.{cast-at}
+use Rattle.layout.proofs.Cells.{cast-at}
 use Rattle.refusals.specs.Refusals.{voteRefusalIn}
 use Rattle.refusals.proofs.vote_refusal.Statement.{statement}
 use Rattle.refusals.proofs.vote_refusal.Tie as tie

@@ -13,8 +13,8 @@ use Rattle.tables.specs.Sites.{siteKeys}
 use Rattle.tables.specs.declared.Tables.{Tables}
 use Rattle.plan.specs.Plan.{readsOf, Plan}
 use Rattle.layout.specs.Layout.{theVersions, theReadVersions, theRecorded}
+use Rattle.layout.proofs.Cells.{version-at, read-version-at, recorded-at}
 use Rattle.rules.specs.Votes.{certifyIn}
-use Rattle.rules.proofs.Parts.{version-at, read-version-at, recorded-at}
 use Rattle.rules.proofs.certify.Statement.{statement}
 use Rattle.rules.proofs.certify.Tie as tie
 

@@ -13,9 +13,9 @@ use Rattle.tables.specs.Sites.{siteKeys}
 use Rattle.tables.specs.declared.Tables.{Tables}
 use Rattle.plan.specs.Plan.{writesOf, Plan}
 use Rattle.layout.specs.Layout.{theVersions}
+use Rattle.layout.proofs.Cells.{version-at}
 use Rattle.rules.specs.Votes.{roomIn}
 use Rattle.rules.specs.Asked.{roomOf}
-use Rattle.rules.proofs.Parts.{version-at}
 use Rattle.rules.proofs.has_room.Statement.{statement}
 use Rattle.rules.proofs.has_room.Tie as tie
 

@@ -11,8 +11,8 @@ use Rattle.bounded.specs.Bounded.{allBelow}
 use Rattle.bounded.proofs.Laws.{all-down}
 use Rattle.keys.specs.Keys.{member}
 use Rattle.layout.specs.Layout.{theCast}
-use Rattle.rules.specs.Cells.{cell}
-use Rattle.rules.proofs.Parts.{cast-at}
+use Rattle.layout.specs.Cells.{cell}
+use Rattle.layout.proofs.Cells.{cast-at}
 use Rattle.rules.proofs.is_all_yes.Statement.{statement}
 use Rattle.rules.proofs.is_all_yes.Tie as tie
 

@@ -7,8 +7,8 @@ use borrow.Author.Needs.{needs}
 use Rattle.bounded.specs.Bounded.{allBelow}
 use Rattle.bounded.proofs.Laws.{all-down}
 use Rattle.layout.specs.Layout.{theRecorded}
-use Rattle.rules.specs.Votes.{recordedIn}
-use Rattle.rules.proofs.Parts.{recorded-at}
+use Rattle.layout.specs.Cells.{recordedIn}
+use Rattle.layout.proofs.Cells.{recorded-at}
 use Rattle.rules.proofs.is_recorded.Statement.{statement}
 use Rattle.rules.proofs.is_recorded.Tie as tie
 

@@ -10,9 +10,9 @@ use Rattle.tables.specs.Sites.{siteCount}
 use Rattle.tables.specs.declared.Tables.{Tables}
 use Rattle.plan.specs.Plan.{Plan}
 use Rattle.layout.specs.Layout.{theCast}
-use Rattle.rules.specs.Cells.{cell}
+use Rattle.layout.specs.Cells.{cell}
+use Rattle.layout.proofs.Cells.{cast-at}
 use Rattle.rules.specs.Votes.{coveredIn, allYesIn, verdictBy}
-use Rattle.rules.proofs.Parts.{cast-at}
 use Rattle.rules.proofs.Votes.{Held, all-yes}
 use Rattle.rules.proofs.verdict.Statement.{statement}
 use Rattle.rules.proofs.verdict.Tie as tie

@@ -10,18 +10,13 @@ use lib.Dec.{ltb}
 use lib.ListN.{length, getD, set, length-set}
 use Rattle.layout.specs.Layout.{theDelivered, theClosed}
 use Rattle.layout.proofs.Laws.{portion-length}
-use Rattle.tables.specs.Fits.{Fits}
-use Rattle.tables.specs.Lists.{writeCount, writeKey}
-use Rattle.tables.specs.declared.Tables.{Tables}
-use Rattle.rules.specs.Cells.{versionIn, nobody}
-use Rattle.rules.specs.Queue.{queuedIn}
-use Rattle.steps.specs.declared.Version.{Version}
-use Rattle.search.specs.Search.{Parts, todoIn}
-use Rattle.search.specs.Known.{any, lowAt, topAt, Knows, Ranged, closedParts}
-use Rattle.search.specs.declared.Todo.the-variants.{Close}
-use Rattle.search.proofs.Knows.{put-same, put-other, knows-closed}
+use Rattle.layout.specs.Cells.{nobody}
+use Rattle.order.specs.Order.{queuedAt}
+use Rattle.search.specs.Known.{any, lowAt, topAt, Ranged, Closed}
+use Rattle.search.proofs.Knows.{knows-closed}
 use Rattle.search.proofs.after_close.Statement.{statement}
 use Rattle.search.proofs.after_close.Tie as tie
+use Rattle.search.proofs.Entries.{put-same, put-other}
 
 add-q : tie.Need-add-q
 add-q c = search needs
@@ -82,17 +77,11 @@ module _ (order l l1 l2 l′ : List ℕ) (flags : List Bool) (marks : List ℕ) 
     next = λ i h. rw (frame (32 + i) (λ e. absurd (omega arith)) (λ e. absurd (omega arith)) (λ e. absurd (omega arith))) (r .next i h);
   }
 
-  knows : ((i : ℕ) → lowAt l s ≤ i → i < p → queuedIn (theDelivered flags) (theClosed marks) s (getD order i nobody) ≡ false)
-      → (p < topAt l s → queuedIn (theDelivered flags) (theClosed marks) s (getD order p nobody) ≡ true)
+  knows : ((i : ℕ) → lowAt l s ≤ i → i < p → queuedAt (theDelivered flags) (theClosed marks) order s i ≡ false)
+      → (p < topAt l s → queuedAt (theDelivered flags) (theClosed marks) order s p ≡ true)
       → (getD l′ s 0 ≡ any) ⊎ ((getD l s 0 ≡ any → ⊥) × (getD l′ s 0 ≡ cond (ltb p (topAt l s)) (getD order p nobody) nobody))
-      → (T : Tables) (w : Parts) (versions : List Version) (t c : ℕ) → Fits T
-      → ((u i : ℕ) → u < T .txns → i < writeCount T u → writeKey T u i < 64)
-      → todoIn T w ≡ Close t s → 0 < c
-      → w .delivered ≡ theDelivered flags → set (w .closed) (t * 16 + s) c ≡ theClosed marks
-      → ((r x : ℕ) → x < 64 → versionIn (w .versions) r x ≤ versionIn versions r x)
-      → ((r x : ℕ) → (r ≡ s → ⊥) → x < 64 → versionIn versions r x ≡ versionIn (w .versions) r x)
-      → Knows T w order l → Knows T (closedParts w versions t s c) order l′
-  knows passes head told T w versions t c fits written next new d e grown kept k =
+      → Closed order l l′ s (theDelivered flags) (theClosed marks)
+  knows passes head told T w versions t c fits written next new d e kept k =
       knows-closed T fits w versions t s c next new
       (sym (length-set (w .closed) (t * 16 + s) c) ∙ ap length e ∙ portion-length 0 (λ (x : ℕ). x) marks 0 2048)
       written

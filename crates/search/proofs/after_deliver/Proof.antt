@@ -7,18 +7,19 @@ use mathlib.Core.Logic.{inl, inr}
 use native.Mathlib.Omega.{arith}
 use borrow.Author.Needs.{needs}
 use lib.ListN.{length, getD, set}
+use Rattle.layout.specs.Cells.{nobody}
 use Rattle.bounded.proofs.Truth.{same}
 use Rattle.tables.specs.Fits.{Fits}
 use Rattle.tables.specs.Sites.{siteCount}
 use Rattle.tables.specs.declared.Tables.{Tables}
-use Rattle.rules.specs.Cells.{nobody}
 use Rattle.search.specs.Search.{Parts, todoIn}
 use Rattle.search.specs.Known.{KnowsAt, lowAt, topAt, openAt, Knows, Ranged, shared, joined, deliveredParts}
 use Rattle.search.specs.declared.Todo.the-variants.{Deliver}
-use Rattle.search.proofs.Knows.{put-same, put-other, codes-joined, knows-delivered}
+use Rattle.search.proofs.Knows.{codes-joined, knows-delivered}
 use Rattle.search.proofs.Tried.{excludes-none}
 use Rattle.search.proofs.after_deliver.Statement.{statement}
 use Rattle.search.proofs.after_deliver.Tie as tie
+use Rattle.search.proofs.Entries.{put-same, put-other}
 
 add-put : tie.Need-add-put
 add-put c = search needs

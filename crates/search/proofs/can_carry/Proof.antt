@@ -5,7 +5,7 @@ use native.Mathlib.Omega.{arith}
 use Prim.Native.Nat.{_<_}
 use borrow.Author.Needs.{needs}
 use borrow.Author.Tests.{ne-eqb}
-use Rattle.rules.proofs.Parts.{cast-at}
+use Rattle.layout.proofs.Cells.{cast-at}
 use Rattle.search.proofs.Carrying.{carry-not, carry-answers}
 use Rattle.search.proofs.can_carry.Statement.{statement}
 use Rattle.search.proofs.can_carry.Tie as tie

@@ -7,15 +7,15 @@ use lib.Dec.{eqb}
 use denote.Ref.{now}
 use borrow.Author.Tests.{eq-eqb, ne-eqb}
 use borrow.Author.Needs.{needs}
+use Rattle.queues.specs.Queue.{queuedIn}
 use Rattle.bounded.specs.Bounded.{firstBelow}
 use Rattle.tables.specs.declared.Tables.{Tables}
 use Rattle.plan.specs.Plan.{sitesOf, Plan}
 use Rattle.layout.specs.Layout.{theVersions, thePlaces, theDelivered, theClosed}
-use Rattle.rules.specs.Cells.{placeIn, nobody}
-use Rattle.rules.specs.Queue.{queuedIn}
+use Rattle.layout.specs.Cells.{placeIn, nobody}
 use Rattle.rules.specs.Asked.{roomOf}
-use Rattle.search.specs.Search.{closing}
-use Rattle.search.proofs.Closing.{lent, only-queued, only-concerned, by-verdict}
+use Rattle.search.specs.Search.{closing, lent}
+use Rattle.search.proofs.Closing.{only-queued, only-concerned, by-verdict}
 use Rattle.search.proofs.can_close.Statement.{statement}
 use Rattle.search.proofs.can_close.Tie as tie
 

@@ -5,18 +5,19 @@ use mathlib.Core.Bool.{true, false}
 use mathlib.Core.Logic.{inl, inr}
 use native.Mathlib.Omega.{arith}
 use borrow.Author.Needs.{needs}
-use lib.ListN.{getD}
+use Rattle.queues.specs.Queue.{nextOf, blockedOf}
+use Rattle.order.specs.Order.{waitsAt}
+use Rattle.order.proofs.Positions.{none-waits}
 use Rattle.bounded.proofs.Truth.{clash}
 use Rattle.tables.specs.Sites.{siteCount}
 use Rattle.tables.specs.declared.Tables.{Tables}
 use Rattle.plan.specs.Plan.{Plan}
 use Rattle.layout.specs.Layout.{thePlaces, theDelivered, theClosed}
-use Rattle.rules.specs.Cells.{nobody}
-use Rattle.rules.specs.Asked.{nextOf, blockedOf}
 use Rattle.search.specs.Search.{Parts}
-use Rattle.search.specs.Known.{nextAt, lowAt, topAt, waitsIn, Knows, Ranged}
+use Rattle.search.specs.Known.{nextAt, lowAt, topAt, Knows, Ranged}
+use Rattle.search.proofs.Entries.{put-same}
 use Rattle.search.proofs.Stored.{ranged-set}
-use Rattle.search.proofs.Carrying.{at-same, three-kept, waits-to, knows-waiting, knows-headed, knows-ended, none-waits, next-found, next-none, deliver-answers, deliver-none}
+use Rattle.search.proofs.Carrying.{three-kept, waits-to, knows-waiting, knows-headed, knows-ended, next-found, next-none, deliver-answers, deliver-none}
 use Rattle.search.proofs.can_deliver.Statement.{statement}
 use Rattle.search.proofs.can_deliver.Tie as tie
 
@@ -54,11 +55,11 @@ ranged-1 : (c : tie.After-put) → Ranged (c .put .last .0)
 ranged-1 c = subst (λ l. Ranged l) (sym (c .put .ensures .0)) (ranged-set _ _ _ (c .before .before .before .before .pre .0 .1) (inl (c .before .before .next-from .ensures .1)))
 
 waiting : (c : tie.After-put) (T : Tables) (w : Parts) → Lent (c .before .before .before .before) T w
-    → ((i : ℕ) → nextAt (c .before .before .before .before .args .known .now) (c .before .before .before .before .args .s) ≤ i → i < c .before .before .next-from .result → waitsIn T w (c .before .before .before .before .args .s) (getD (c .before .before .before .before .args .order .now) i nobody) ≡ false)
-    × (c .before .before .next-from .result < 128 → waitsIn T w (c .before .before .before .before .args .s) (getD (c .before .before .before .before .args .order .now) (c .before .before .next-from .result) nobody) ≡ true)
-waiting c T w h = c .before .before .next-from .ensures .0 T w (h .plan) (rw (h .places) at (h .knows .ordered)) (h .places) (h .delivered)
+    → ((i : ℕ) → nextAt (c .before .before .before .before .args .known .now) (c .before .before .before .before .args .s) ≤ i → i < c .before .before .next-from .result → waitsAt T (w .places) (w .delivered) (c .before .before .before .before .args .order .now) (c .before .before .before .before .args .s) i ≡ false)
+    × (c .before .before .next-from .result < 128 → waitsAt T (w .places) (w .delivered) (c .before .before .before .before .args .order .now) (c .before .before .before .before .args .s) (c .before .before .next-from .result) ≡ true)
+waiting c T w h = rw (h .places, h .delivered) (c .before .before .next-from .ensures .0 T (h .plan) (rw (h .places) at (h .knows .ordered)))
 
-before : (c : tie.After-put) (T : Tables) (w : Parts) → Lent (c .before .before .before .before) T w → (i : ℕ) → i < c .before .before .next-from .result → waitsIn T w (c .before .before .before .before .args .s) (getD (c .before .before .before .before .args .order .now) i nobody) ≡ false
+before : (c : tie.After-put) (T : Tables) (w : Parts) → Lent (c .before .before .before .before) T w → (i : ℕ) → i < c .before .before .next-from .result → waitsAt T (w .places) (w .delivered) (c .before .before .before .before .args .order .now) (c .before .before .before .before .args .s) i ≡ false
 before c T w h = waits-to T w (c .before .before .before .before .args .order .now) (c .before .before .before .before .args .known .now) (h .knows) (c .before .before .before .before .args .s) (c .before .before .next-from .result) (site (c .before .before .before .before)) (waiting c T w h .0)
 
 knows-1 : (c : tie.After-put) (T : Tables) (w : Parts) → Lent (c .before .before .before .before) T w → Knows T w (c .before .before .before .before .args .order .now) (c .put .last .0)
@@ -129,11 +130,11 @@ knows-3 : (c : tie.After-put3) (T : Tables) (w : Parts) → Lent (c .before .bef
 knows-3 c T w h = knows-ended T w (c .before .before .before .before .before .before .before .before .before .before .before .before .before .before .args .order .now) (c .before .before .before .before .put2 .last .0) (knows-2 (c .before .before .before .before) T w h) (c .before .before .before .before .before .before .before .before .before .before .before .before .before .before .args .s) (c .before .before .last-to .result) (site (c .before .before .before .before .before .before .before .before .before .before .before .before .before .before)) (c .put3 .last .0)
     (c .put3 .ensures .0) (c .put3 .ensures .1)
     (λ i a b d. rw (h .delivered, h .closed) (c .before .before .last-to .ensures .0 i a b
-    (rw (at-same (c .before .before .before .before .before .before .before .before .before .before .put .last .0) (c .before .before .before .before .put2 .last .0) (48 + c .before .before .before .before .before .before .before .before .before .before .before .before .before .before .args .s) (c .before .before .before .before .before .before .head-from .result) (c .before .before .before .before .put2 .ensures .0) (c .before .before .before .before .put2 .ensures .1)) at d)))
+    (rw (put-same (c .before .before .before .before .before .before .before .before .before .before .put .last .0) (c .before .before .before .before .put2 .last .0) (48 + c .before .before .before .before .before .before .before .before .before .before .before .before .before .before .args .s) (c .before .before .before .before .before .before .head-from .result) (c .before .before .before .before .put2 .ensures)) at d)))
 
 kept : (c : tie.After-put3) → (nextAt (c .put3 .last .0) (c .before .before .before .before .before .before .before .before .before .before .before .before .before .before .args .s) ≡ c .before .before .before .before .before .before .before .before .before .before .before .before .next-from .result) × (lowAt (c .put3 .last .0) (c .before .before .before .before .before .before .before .before .before .before .before .before .before .before .args .s) ≡ c .before .before .before .before .before .before .head-from .result) × (topAt (c .put3 .last .0) (c .before .before .before .before .before .before .before .before .before .before .before .before .before .before .args .s) ≡ c .before .before .last-to .result)
 kept c = three-kept (c .before .before .before .before .before .before .before .before .before .before .before .before .before .before .args .known .now) (c .before .before .before .before .before .before .before .before .before .before .put .last .0) (c .before .before .before .before .put2 .last .0) (c .put3 .last .0) (c .before .before .before .before .before .before .before .before .before .before .before .before .before .before .args .s) (c .before .before .before .before .before .before .before .before .before .before .before .before .next-from .result) (c .before .before .before .before .before .before .head-from .result) (c .before .before .last-to .result)
-    (c .before .before .before .before .before .before .before .before .before .before .put .ensures .0) (c .before .before .before .before .before .before .before .before .before .before .put .ensures .1) (c .before .before .before .before .put2 .ensures .0) (c .before .before .before .before .put2 .ensures .1) (c .put3 .ensures .0) (c .put3 .ensures .1)
+    (c .before .before .before .before .before .before .before .before .before .before .put .ensures) (c .before .before .before .before .put2 .ensures) (c .put3 .ensures)
 
 cast-at : tie.Need-cast-at
 cast-at c = search needs
@@ -180,7 +181,7 @@ returns-2 : tie.Need-returns-2
 returns-2 c = (
   λ T w p a b d k.
       let h : Lent (c .before .before .before .before .before .before .before .before .before .before .before .before .before .before .before .before) T w = record { plan = p; places = a; delivered = b; closed = d; knows = k } in
-      let z = clash (waiting (c .before .before .before .before .before .before .before .before .before .before .before .before) T w h .1 (c .before .before .before .before .before .before .before .before .before .before .before .if1 .taken)) (none-waits T w (c .before .before .before .before .before .before .before .before .before .before .before .before .before .before .before .before .args .numbers .now) (c .before .before .before .before .before .before .before .before .before .before .before .before .before .before .before .before .args .s) _ a (rw (c .before .at .ensures .0) at (c .if2 .left))) in
+      let z = clash (waiting (c .before .before .before .before .before .before .before .before .before .before .before .before) T w h .1 (c .before .before .before .before .before .before .before .before .before .before .before .if1 .taken)) (rw (h .places) (none-waits T (c .before .before .before .before .before .before .before .before .before .before .before .before .before .before .before .before .args .numbers .now) (w .delivered) (c .before .before .before .before .before .before .before .before .before .before .before .before .before .before .before .before .args .order .now) (c .before .before .before .before .before .before .before .before .before .before .before .before .before .before .before .before .args .s) _ (rw (c .before .at .ensures .0) at (c .if2 .left)))) in
       (knows-3 (c .before .before) T w h, (z, λ e. clash e refl)),
   (ranged-3 (c .before .before), λ e. clash e refl),
 )

@@ -10,26 +10,26 @@ use lib.Dec.{eqb}
 use lib.Seq.{getD-set-other}
 use Rattle.tables.specs.declared.Tables.{Tables}
 use Rattle.plan.specs.Plan.{Plan}
-use Rattle.search.specs.Search.{Parts, closing, todoIn}
+use Rattle.search.specs.Search.{Parts, closing, todoIn, lent}
 use Rattle.search.specs.declared.Todo.the-variants.{Carry}
 use Rattle.search.specs.Known.{openAt, Knows, Ranged, carriedParts}
 use Rattle.search.proofs.Stored.{ranged-set}
-use Rattle.search.proofs.Handing.{whole, Goes, goes-first, goes-opened, goes-some, Handed, goes-by, goes-known, on-taker, on-knows, on-handed, handed-ends, handed-goes, open-same}
+use Rattle.search.proofs.Handing.{Goes, goes-first, goes-opened, goes-some, Handed, goes-by, goes-known, on-taker, on-knows, on-handed, handed-ends, handed-goes, open-same}
 use Rattle.search.proofs.carry_on.Statement.{statement}
 use Rattle.search.proofs.carry_on.Tie as tie
 
 abbrev Inv-loop : tie.InvT-loop
 Inv-loop plan order numbers flags marks carried₀ known₀ t n k₀ q₀ carried known k q =
     (k ≤ n) × Ranged known × (openAt known ≡ openAt known₀)
-    × ((T : Tables) (from to : ℕ) → Plan T plan → Knows T (whole numbers flags marks carried₀) order known₀ → todoIn T (whole numbers flags marks carried₀) ≡ Carry t from to
-    → Goes T (whole numbers flags marks carried₀) order known t k q carried)
+    × ((T : Tables) (from to : ℕ) → Plan T plan → Knows T (lent numbers flags marks carried₀) order known₀ → todoIn T (lent numbers flags marks carried₀) ≡ Carry t from to
+    → Goes T (lent numbers flags marks carried₀) order known t k q carried)
 
 abbrev μ-loop : tie.MeasureT-loop
 μ-loop plan order numbers flags marks carried₀ known₀ t n k₀ q₀ carried known k q = 256 - q
 
 -- the parts at the entry, and what is known where closes_now has answered
 abbrev first : tie.After-closes-now Inv-loop μ-loop → Parts
-first c = let a = c .before .before .before .before .before .before .before .before .before .before .before .before .before .before .args in whole (a .numbers .now) (a .flags .now) (a .marks .now) (a .carried .now)
+first c = let a = c .before .before .before .before .before .before .before .before .before .before .before .before .before .before .args in lent (a .numbers .now) (a .flags .now) (a .marks .now) (a .carried .now)
 
 abbrev told : tie.After-closes-now Inv-loop μ-loop → List ℕ
 told c = c .closes-now .last .1 .1 .1 .1 .1 .1 .0

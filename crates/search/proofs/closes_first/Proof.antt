@@ -8,16 +8,16 @@ use lib.Dec.{eqb}
 use lib.ListN.{getD}
 use denote.Ref.{now}
 use borrow.Author.Needs.{needs}
+use Rattle.queues.specs.Queue.{queuedIn}
+use Rattle.order.specs.Order.{Ordered}
 use Rattle.bounded.specs.Bounded.{firstBelow}
 use Rattle.bounded.proofs.Truth.{same}
 use Rattle.tables.specs.declared.Tables.{Tables}
 use Rattle.plan.specs.Plan.{sitesOf, Plan}
 use Rattle.layout.specs.Layout.{thePlaces, theDelivered, theClosed}
-use Rattle.rules.specs.Cells.{placeIn, nobody}
-use Rattle.rules.specs.Queue.{queuedIn}
-use Rattle.search.specs.Search.{closing}
-use Rattle.search.specs.Order.{Ordered}
-use Rattle.search.proofs.Closing.{lent, first-closes, none-first, head-stands}
+use Rattle.layout.specs.Cells.{placeIn, nobody}
+use Rattle.search.specs.Search.{closing, lent}
+use Rattle.search.proofs.Closing.{first-closes, none-first, head-stands}
 use Rattle.search.proofs.closes_first.Statement.{statement}
 use Rattle.search.proofs.closes_first.Tie as tie
 

@@ -2,6 +2,7 @@
 -- Assumes nothing.
 use Prim.Native.Nat.{_+_}
 use mathlib.Core.Path.{_≡_, refl, sym, subst, _∙_}
+use mathlib.Core.Bool.{Bool, false}
 use mathlib.Core.Logic.{inr}
 use native.Mathlib.Omega.{arith}
 use lib.ListN.{getD}
@@ -9,13 +10,15 @@ use lib.Seq.{getD-set-other}
 use borrow.Author.Tests.{eq-eqb}
 use Rattle.bounded.proofs.Truth.{and-put, clash}
 use Rattle.layout.specs.Layout.{theDelivered, theClosed}
+use Rattle.layout.proofs.Laws.{portion-length}
 use Rattle.search.specs.Known.{Knows, Ranged}
 use Rattle.search.proofs.Frames.{close-only}
-use Rattle.search.proofs.Stored.{ranged-set}
-use Rattle.search.proofs.Handing.{whole, queued-inside, head-low, head-found}
+use Rattle.search.proofs.Stored.{ranged-set, knows-moved}
+use Rattle.search.proofs.Handing.{head-found}
 use borrow.Author.Needs.{needs}
 use Rattle.search.proofs.closes_now.Statement.{statement}
 use Rattle.search.proofs.closes_now.Tie as tie
+use Rattle.search.specs.Search.{lent}
 
 is-queued-requires : tie.Need-is-queued-requires
 is-queued-requires c κs = search needs
@@ -56,13 +59,13 @@ can-close-requires c κs = search needs
 returns : tie.Need-returns
 returns c =
     let a = c .before .before .before .before .before .before .before .before .before .args in
-    let w = whole (a .numbers .now) (a .flags .now) (a .marks .now) (a .carried .now) in
+    let w = lent (a .numbers .now) (a .flags .now) (a .marks .now) (a .carried .now) in
     let low = c .before .before .before .before .before .before .before .before .before .pre .1 .1 in
     let from = c .before .before .before .before .head-from .ensures in
     let put = c .before .before .put .ensures in (
       λ T p m k. (
-        subst (λ l. Knows T w (a .order .now) l) (sym (put .0)) (head-low T (p .fits) w (a .order .now) (a .known .now) k (a .s) _ low (from .0) (put .1)),
-        c .can-close .ensures T p m (c .before .head-at .ensures .0 ∙ head-found T (p .fits) w (a .order .now) (a .known .now) k (a .s) _ low (from .0) (queued-inside (a .flags .now) (theClosed (a .marks .now)) (a .s)) (from .1 .0)),
+        subst (λ l. Knows T w (a .order .now) l) (sym (put .0)) (knows-moved T w (a .order .now) (a .known .now) k (a .s) low _ (from .0) (put .1)),
+        c .can-close .ensures T p m (c .before .head-at .ensures .0 ∙ head-found T (p .fits) w (a .order .now) (a .known .now) k (a .s) _ low (portion-length false (λ (x : Bool). x) (a .flags .now) 1024 2048) (from .0) (from .1 .0)),
       ),
       (
         subst Ranged (sym (put .0)) (ranged-set (a .known .now) (48 + a .s) _ (c .before .before .before .before .before .before .before .before .before .pre .0 .1) (inr (inr (inr (omega arith, omega arith))))),

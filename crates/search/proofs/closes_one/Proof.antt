@@ -5,9 +5,10 @@ use denote.Ref.{now}
 use borrow.Author.Needs.{needs}
 use Rattle.layout.specs.Layout.{theClosed}
 use Rattle.search.proofs.Tried.{code-closes, code-shut}
-use Rattle.search.proofs.Closing.{lent, head-stands, code-past}
+use Rattle.search.proofs.Closing.{head-stands, code-past}
 use Rattle.search.proofs.closes_one.Statement.{statement}
 use Rattle.search.proofs.closes_one.Tie as tie
+use Rattle.search.specs.Search.{lent}
 
 closes-first-requires : tie.Need-closes-first-requires
 closes-first-requires c κs = c .before .pre

@@ -10,9 +10,10 @@ use Rattle.layout.specs.Layout.{theCast}
 use Rattle.search.specs.Search.{Parts}
 use Rattle.search.specs.Known.{firstPair, Knows, Ranged}
 use Rattle.search.proofs.Stored.{ranged-set}
-use Rattle.search.proofs.Carrying.{at-same, passed-is, knows-sought, none-open, open-carries, passed-to, still-open, knows-tried, tries, tries-less}
+use Rattle.search.proofs.Carrying.{knows-sought, none-open, open-carries, passed-to, still-open, knows-tried, tries, tries-less}
 use Rattle.search.proofs.first_carrying.Statement.{statement}
 use Rattle.search.proofs.first_carrying.Tie as tie
+use Rattle.search.proofs.Entries.{passed-is, put-same}
 
 abbrev Inv-loop : tie.InvT-loop
 Inv-loop plan order marks carried known₀ known =
@@ -100,7 +101,7 @@ knows-2 c T w p a b k =
 
 returns-2 : tie.Need-returns-2 Inv-loop μ-loop
 returns-2 c =
-    let e = at-same (c .before .before .before .before .before .before .before .put .last .0) (c .before .put2 .last .0) (80 + c .before .before .before .before .before .at .result) (c .before .before .before .pair-from .result) (c .before .put2 .ensures .0) (c .before .put2 .ensures .1) in (
+    let e = put-same (c .before .before .before .before .before .before .before .put .last .0) (c .before .put2 .last .0) (80 + c .before .before .before .before .before .at .result) (c .before .before .before .pair-from .result) (c .before .put2 .ensures) in (
       λ T w p a b k.
           let q = first (c .before) T w p a b k in (
             knows-2 (c .before) T w p a b k,
@@ -117,7 +118,7 @@ loop-less c =
     let l = c .before .before .before .before .before .before .if1 .left in
     tries-less (c .before .before .before .before .before .before .before .before .before .before .before .before .before .args .order .now) (c .before .before .before .before .before .before .before .before .before .before .before .before .loop .known) (c .before .before .before .before .before .before .before .put .last .0) (c .before .put2 .last .0) (c .before .before .before .before .before .before .before .before .before .open-from .result) (c .before .before .before .before .before .at .result) (c .before .before .before .pair-from .result)
     (c .before .before .before .before .before .before .before .before .before .open-from .ensures .1 .1 .1 l) l (c .before .before .before .before .before .at .ensures .0) (low (c .before .before .before .before .before)) (c .before .before .before .before .before .before .before .before .before .open-from .ensures .1 .0 l .1)
-    (c .before .before .before .before .before .before .before .put .ensures .0) (c .before .before .before .before .before .before .before .put .ensures .1) (c .before .put2 .ensures .0) (c .before .put2 .ensures .1) (c .if2 .left)
+    (c .before .before .before .before .before .before .before .put .ensures) (c .before .put2 .ensures) (c .if2 .left)
 
 loop-again : tie.Need-loop-again Inv-loop μ-loop
 loop-again c = (ranged-2 (c .before), knows-2 (c .before))

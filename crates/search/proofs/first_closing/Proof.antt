@@ -7,18 +7,19 @@ use lib.Dec.{ltb}
 use denote.Ref.{now}
 use borrow.Author.Tests.{le-ltb}
 use borrow.Author.Needs.{needs}
+use Rattle.layout.specs.Cells.{nobody}
 use Rattle.bounded.specs.Bounded.{firstBelow, leastBelow}
 use Rattle.bounded.proofs.Laws.{least-up}
 use Rattle.tables.specs.declared.Tables.{Tables}
 use Rattle.tables.specs.Sites.{siteCount}
 use Rattle.plan.specs.Plan.{Plan}
-use Rattle.rules.specs.Cells.{nobody}
-use Rattle.search.specs.Search.{nowhere, closesFirstIn, firstClosingIn}
+use Rattle.search.specs.Search.{nowhere, closesFirstIn, firstClosingIn, lent}
 use Rattle.search.specs.Known.{Knows, Ranged}
-use Rattle.search.proofs.Stored.{ranged-set}
-use Rattle.search.proofs.Closing.{lent, code-past, knows-at, knows-below, knows-none, knows-moved, first-site}
+use Rattle.search.proofs.Stored.{ranged-set, knows-below, knows-moved}
+use Rattle.search.proofs.Closing.{code-past, knows-none, first-site}
 use Rattle.search.proofs.first_closing.Statement.{statement}
 use Rattle.search.proofs.first_closing.Tie as tie
+use Rattle.search.proofs.Entries.{closing-get}
 
 abbrev Inv-loop : tie.InvT-loop
 Inv-loop plan order numbers flags marks carried known₀ n s₀ known s = (s ≤ n) × Ranged known × ((T : Tables) → Plan T plan → Knows T (lent numbers flags marks carried) order known₀
@@ -44,8 +45,8 @@ found c T p k =
     let s = c .before .before .before .before .before .before .before .before .before .loop .s in
     let low = site-low (c .before .before .before .before .before .before .before .before) in
     let h = c .before .before .before .head-from .ensures in (
-      rw (c .before .put .ensures .0) (knows-moved T w (now (c .before .before .before .before .before .before .before .before .before .before .before .args .order)) l k s low _ (c .before .put .ensures .1) (h .0)),
-      c .closes-one .ensures T p (omega (arith, c .before .before .before .before .before .before .before .before .loop-test .taken, c .before .before .before .before .before .before .before .before .before .before .sites .ensures)) (knows-at T w (now (c .before .before .before .before .before .before .before .before .before .before .before .args .order)) l k s low) (knows-below T w (now (c .before .before .before .before .before .before .before .before .before .before .before .args .order)) l k s low _ (h .0)) (λ i b. k .top s i low b) (h .1 .0),
+      rw (c .before .put .ensures .0) (knows-moved T w (now (c .before .before .before .before .before .before .before .before .before .before .before .args .order)) l k s low _ (h .0) (c .before .put .ensures .1)),
+      c .closes-one .ensures T p (omega (arith, c .before .before .before .before .before .before .before .before .loop-test .taken, c .before .before .before .before .before .before .before .before .before .before .sites .ensures)) (closing-get T w l (k .closing) s low) (knows-below T w (now (c .before .before .before .before .before .before .before .before .before .before .before .args .order)) l k s low _ (h .0)) (λ i b. k .top s i low b) (h .1 .0),
     )
 
 sites-requires : tie.Need-sites-requires Inv-loop μ-loop
@@ -145,7 +146,7 @@ loop-again c =
         rw (g .1) (c .before .before .before .loop .inv .1),
         λ T p k₀.
             let (k, none) = c .before .before .before .loop .inv .2 T p k₀ in
-            let shut : closesFirstIn T w s ≡ nobody = code-past T (p .fits) w s nobody (p .fits .txns) (λ e. absurd (omega (arith, e))) (rw (g .0 .left) at (knows-at T w order (c .before .before .before .loop .known) k s low)) in
+            let shut : closesFirstIn T w s ≡ nobody = code-past T (p .fits) w s nobody (p .fits .txns) (λ e. absurd (omega (arith, e))) (rw (g .0 .left) at (closing-get T w (c .before .before .before .loop .known) (k .closing) s low)) in
             (rw (g .1) k, least-up s _ nowhere none (le-ltb (closesFirstIn T w s) nobody (omega (arith, shut)))),
       )
     ]

@@ -14,9 +14,10 @@ use Rattle.layout.specs.Layout.{thePlaces, theDelivered, theClosed}
 use Rattle.search.specs.Search.{Parts, firstDeliveringIn}
 use Rattle.search.specs.Known.{Knows, Ranged}
 use Rattle.search.proofs.Stored.{knows-stuck, ranged-set}
-use Rattle.search.proofs.Carrying.{stuck-is, NoneBelow}
+use Rattle.search.proofs.Carrying.{NoneBelow}
 use Rattle.search.proofs.first_delivering.Statement.{statement}
 use Rattle.search.proofs.first_delivering.Tie as tie
+use Rattle.search.proofs.Entries.{stuck-is}
 
 abbrev Inv-loop : tie.InvT-loop
 Inv-loop plan order numbers flags marks known₀ n s₀ known s = (s ≤ n)

@@ -5,7 +5,7 @@ use mathlib.Core.Logic.{_⊎_, inl, inr}
 use native.Mathlib.Omega.{arith}
 use borrow.Author.Needs.{needs}
 use lib.ListN.{getD}
-use Rattle.search.proofs.Laws.{replicated}
+use Rattle.bounded.proofs.Lists.{replicated}
 use Rattle.search.proofs.Knows.{knows-first}
 use Rattle.search.proofs.first_known.Statement.{statement}
 use Rattle.search.proofs.first_known.Tie as tie

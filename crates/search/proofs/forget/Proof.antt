@@ -5,9 +5,9 @@ use mathlib.Core.Logic.{inl, inr}
 use native.Mathlib.Omega.{arith}
 use lib.ListN.{getD}
 use Rattle.bounded.proofs.Truth.{same}
-use Rattle.search.proofs.Knows.{put-same, put-other}
 use Rattle.search.proofs.forget.Statement.{statement}
 use Rattle.search.proofs.forget.Tie as tie
+use Rattle.search.proofs.Entries.{put-same, put-other}
 
 -- the codes below s are any, and what is not a code is as it was
 abbrev Inv-loop : tie.InvT-loop

@@ -4,10 +4,10 @@ use mathlib.Core.Path.{_≡_, refl, sym, _∙_}
 use mathlib.Core.Bool.{true, false, _||_}
 use mathlib.Core.List.{List}
 use native.Mathlib.Omega.{arith}
+use Rattle.layout.specs.Cells.{cell}
 use Rattle.bounded.specs.Bounded.{anyBelow}
 use Rattle.bounded.proofs.Laws.{any-down}
 use Rattle.keys.specs.Keys.{member}
-use Rattle.rules.specs.Cells.{cell}
 use Rattle.search.specs.Known.{shared}
 use Rattle.search.proofs.is_shared.Statement.{statement}
 use Rattle.search.proofs.is_shared.Tie as tie

@@ -4,26 +4,26 @@ use mathlib.Core.Path.{refl}
 use native.Mathlib.Omega.{arith}
 use borrow.Author.Needs.{needs}
 use borrow.Author.Tests.{le-ltb, lt-ltb}
-use Rattle.layout.specs.Layout.{theVersions, thePlaces, theDelivered, theClosed, theCast}
-use Rattle.rules.specs.Cells.{nobody}
-use Rattle.search.specs.Search.{Parts, parts, nowhere, todoIn}
+use Rattle.layout.specs.Cells.{nobody}
+use Rattle.search.specs.Search.{Parts, nowhere, todoIn, lent}
 use Rattle.search.proofs.Pair.{pair-from, pair-to, carried-pair}
-use Rattle.search.proofs.Carrying.{passed-is, no-delivery, same-site}
+use Rattle.search.proofs.Carrying.{no-delivery, same-site}
 use Rattle.search.proofs.next_step.Statement.{statement}
 use Rattle.search.proofs.next_step.Tie as tie
+use Rattle.search.proofs.Entries.{passed-is}
 
 -- the parts that are lent
-abbrev lent : tie.Start → Parts
-lent c = parts (theVersions (c .args .numbers .now)) (thePlaces (c .args .numbers .now)) (theDelivered (c .args .flags .now)) (theClosed (c .args .marks .now)) (theCast (c .args .marks .now)) (c .args .carried .now)
+abbrev start : tie.Start → Parts
+start c = lent (c .args .numbers .now) (c .args .flags .now) (c .args .marks .now) (c .args .carried .now)
 
 first-closing-requires : tie.Need-first-closing-requires
 first-closing-requires c κs = (c .before .pre .0, c .before .pre .1)
 
-cast-t18 : tie.Need-cast-t18
-cast-t18 c = search needs
+cast-t17 : tie.Need-cast-t17
+cast-t17 c = search needs
 
-cast-t20 : tie.Need-cast-t20
-cast-t20 c = search needs
+cast-t19 : tie.Need-cast-t19
+cast-t19 c = search needs
 
 returns : tie.Need-returns
 unfolding todoIn
@@ -59,7 +59,7 @@ returns-2 c =
     let r = c .before .before .first-delivering .result in (
       λ T p k.
           let g = c .before .before .before .before .before .first-closing .ensures .0 T p k in
-          let h = v .0 T (lent (c .before .before .before .before .before .before .before)) p refl refl refl (g .0) in (
+          let h = v .0 T (start (c .before .before .before .before .before .before .before)) p refl refl refl (g .0) in (
             rw (g .1 .1 (c .before .before .before .before .if1 .left), ← h .1 .0, lt-ltb r nowhere (c .before .if2 .taken)),
             (h .0, λ s e. rw (← same-site r s e) (refl, h .1 .1 (c .before .if2 .taken))),
           ),
@@ -96,7 +96,7 @@ unfolding todoIn
 returns-3 c =
     let v = c .before .before .first-carrying .ensures in
     let r = c .before .before .first-carrying .result in
-    let w = lent (c .before .before .before .before .before .before .before .before .before .before) in
+    let w = start (c .before .before .before .before .before .before .before .before .before .before) in
     let l = c .before .if3 .taken in (
       λ T p k.
           let g = c .before .before .before .before .before .before .before .before .first-closing .ensures .0 T p k in
@@ -123,7 +123,7 @@ returns-4 : tie.Need-returns-4
 unfolding todoIn
 returns-4 c =
     let v = c .before .first-carrying .ensures in
-    let w = lent (c .before .before .before .before .before .before .before .before .before) in (
+    let w = start (c .before .before .before .before .before .before .before .before .before) in (
       λ T p k.
           let g = c .before .before .before .before .before .before .before .first-closing .ensures .0 T p k in
           let h = c .before .before .before .before .first-delivering .ensures .0 T w p refl refl refl (g .0) in
@@ -145,8 +145,8 @@ next-step-spec =
     tie.close
     (tie.spec
     first-closing-requires
-    cast-t18
-    cast-t20
+    cast-t17
+    cast-t19
     returns
     first-delivering-requires
     cast-t22

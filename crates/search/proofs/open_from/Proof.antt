@@ -3,9 +3,10 @@ use Prim.Native.Nat.{ℕ, _-_, _≤_, _<_}
 use mathlib.Core.Logic.{⊎-elim}
 use native.Mathlib.Omega.{arith}
 use borrow.Author.Needs.{needs}
-use Rattle.search.proofs.Carrying.{passed-is, Done, done-more}
+use Rattle.search.proofs.Carrying.{Done, done-more}
 use Rattle.search.proofs.open_from.Statement.{statement}
 use Rattle.search.proofs.open_from.Tie as tie
+use Rattle.search.proofs.Entries.{passed-is}
 
 abbrev Inv-loop : tie.InvT-loop
 Inv-loop order known p i₀ i = (p ≤ i) × ((j : ℕ) → p ≤ j → j < i → Done order known j)

@@ -6,9 +6,9 @@ use mathlib.Core.Logic.{_⊎_, inl, inr}
 use native.Mathlib.Omega.{arith}
 use lib.ListN.{length, getD, set}
 use Rattle.bounded.proofs.Truth.{same}
-use Rattle.search.proofs.Knows.{put-same, put-other}
 use Rattle.search.proofs.put_sites.Statement.{statement}
 use Rattle.search.proofs.put_sites.Tie as tie
+use Rattle.search.proofs.Entries.{put-same, put-other}
 
 -- the sites below s have their code and their last position, and what is neither is as it was
 abbrev Done : List ℕ → List ℕ → ℕ → Type 0
