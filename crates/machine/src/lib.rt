@@ -233,7 +233,7 @@ fn close_at<'a, 'b>(
     s: usize,
 ) -> u8
     requires { ⌜ ((T : Tables) × (Ready (stateOf T (now numbers) (now flags) (now marks) (now carried)) (now plan) × (closeRefusal (stateOf T (now numbers) (now flags) (now marks) (now carried)) t s ≡ 0))) ⌝ }
-    ensures { λ r. ⌜ ((T : Tables) → Ready (stateOf T (now (numbers .entry)) (now (flags .entry)) (now (marks .entry)) (now (carried .entry))) (now (plan .entry)) → closeRefusal (stateOf T (now (numbers .entry)) (now (flags .entry)) (now (marks .entry)) (now (carried .entry))) t s ≡ 0 → (r ≡ verdict (stateOf T (now (numbers .entry)) (now (flags .entry)) (now (marks .entry)) (now (carried .entry))) t s) × (stateOf T (now (numbers .exit)) (now (flags .entry)) (now (marks .exit)) (now (carried .entry)) ≡ closeDone (stateOf T (now (numbers .entry)) (now (flags .entry)) (now (marks .entry)) (now (carried .entry))) t s .next)) ⌝ }
+    ensures { λ r. ⌜ ((T : Tables) → let st = stateOf T (now (numbers .entry)) (now (flags .entry)) (now (marks .entry)) (now (carried .entry)) in Ready st (now (plan .entry)) → closeRefusal st t s ≡ 0 → (r ≡ verdict st t s) × (stateOf T (now (numbers .exit)) (now (flags .entry)) (now (marks .exit)) (now (carried .entry)) ≡ closeDone st t s .next)) ⌝ }
 {
     let verdict = rules::verdict(plan, marks, carried, t, s);
     if verdict == 1 {
@@ -254,7 +254,7 @@ fn take_close<'a, 'b>(
     s: u8,
 ) -> Answer
     requires { ⌜ Runs (now numbers) (now flags) (now marks) (now carried) (now plan) ⌝ }
-    ensures { λ r. ⌜ ((T : Tables) → Ready (stateOf T (now (numbers .entry)) (now (flags .entry)) (now (marks .entry)) (now (carried .entry))) (now (plan .entry)) → Takes (stateOf T (now (numbers .entry)) (now (flags .entry)) (now (marks .entry)) (now (carried .entry))) (Step.Close t s) r (stateOf T (now (numbers .exit)) (now (flags .entry)) (now (marks .exit)) (now (carried .entry)))) ⌝ }
+    ensures { λ r. ⌜ ((T : Tables) → let st = stateOf T (now (numbers .entry)) (now (flags .entry)) (now (marks .entry)) (now (carried .entry)) in Ready st (now (plan .entry)) → Takes st (Step.Close t s) r (stateOf T (now (numbers .exit)) (now (flags .entry)) (now (marks .exit)) (now (carried .entry)))) ⌝ }
 {
     let n = refusals::close_refusal(plan, numbers, flags, marks, carried, t, s);
     if n != 0 {
@@ -279,7 +279,7 @@ fn close_next<'a, 'b>(
 )
     requires { ⌜ ((T : Tables) × (Ready (stateOf T (now numbers) (now flags) (now marks) (now carried)) (now plan) × (todo (stateOf T (now numbers) (now flags) (now marks) (now carried)) ≡ Close t s))) ⌝ }
     requires { ⌜ Ranged (now known) ⌝ }
-    ensures { λ _. ⌜ ((T : Tables) → Ready (stateOf T (now (numbers .entry)) (now (flags .entry)) (now (marks .entry)) (now (carried .entry))) (now (plan .entry)) → todo (stateOf T (now (numbers .entry)) (now (flags .entry)) (now (marks .entry)) (now (carried .entry))) ≡ Close t s → Turns (stateOf T (now (numbers .entry)) (now (flags .entry)) (now (marks .entry)) (now (carried .entry))) 1 (stateOf T (now (numbers .exit)) (now (flags .entry)) (now (marks .exit)) (now (carried .entry))) (now (order .entry)) (now (known .entry)) (now (known .exit))) ⌝ }
+    ensures { λ _. ⌜ ((T : Tables) → let st = stateOf T (now (numbers .entry)) (now (flags .entry)) (now (marks .entry)) (now (carried .entry)) in Ready st (now (plan .entry)) → todo st ≡ Close t s → Turns st 1 (stateOf T (now (numbers .exit)) (now (flags .entry)) (now (marks .exit)) (now (carried .entry))) (now (order .entry)) (now (known .entry)) (now (known .exit))) ⌝ }
     ensures { λ _. ⌜ Ranged (now (known .exit)) ⌝ }
 {
     let _ = close_at(plan, numbers, flags, marks, carried, t, s);
@@ -300,7 +300,7 @@ fn deliver_next<'a, 'b>(
 )
     requires { ⌜ ((T : Tables) × (Ready (stateOf T (now numbers) (now flags) (now marks) (now carried)) (now plan) × ((todo (stateOf T (now numbers) (now flags) (now marks) (now carried)) ≡ Deliver s) × (getD (now order) p nobody ≡ nextAt (stateOf T (now numbers) (now flags) (now marks) (now carried)) s)))) ⌝ }
     requires { ⌜ Ranged (now known) × (p < 128) ⌝ }
-    ensures { λ _. ⌜ ((T : Tables) → Ready (stateOf T (now (numbers .entry)) (now (flags .entry)) (now (marks .entry)) (now (carried .entry))) (now (plan .entry)) → todo (stateOf T (now (numbers .entry)) (now (flags .entry)) (now (marks .entry)) (now (carried .entry))) ≡ Deliver s → getD (now (order .entry)) p nobody ≡ nextAt (stateOf T (now (numbers .entry)) (now (flags .entry)) (now (marks .entry)) (now (carried .entry))) s → Turns (stateOf T (now (numbers .entry)) (now (flags .entry)) (now (marks .entry)) (now (carried .entry))) 1 (stateOf T (now (numbers .entry)) (now (flags .exit)) (now (marks .exit)) (now (carried .entry))) (now (order .entry)) (now (known .entry)) (now (known .exit))) ⌝ }
+    ensures { λ _. ⌜ ((T : Tables) → let st = stateOf T (now (numbers .entry)) (now (flags .entry)) (now (marks .entry)) (now (carried .entry)) in Ready st (now (plan .entry)) → todo st ≡ Deliver s → getD (now (order .entry)) p nobody ≡ nextAt st s → Turns st 1 (stateOf T (now (numbers .entry)) (now (flags .exit)) (now (marks .exit)) (now (carried .entry))) (now (order .entry)) (now (known .entry)) (now (known .exit))) ⌝ }
     ensures { λ _. ⌜ Ranged (now (known .exit)) ⌝ }
 {
     let t = order::at(order, p as usize);
@@ -321,7 +321,7 @@ fn turn<'a, 'b>(
 ) -> u32
     requires { ⌜ ((T : Tables) × (Ready (stateOf T (now numbers) (now flags) (now marks) (now carried)) (now plan) × Knows T (lent (now numbers) (now flags) (now marks) (now carried)) (now order) (now known))) ⌝ }
     requires { ⌜ Ranged (now known) × (0 < n) ⌝ }
-    ensures { λ r. ⌜ ((T : Tables) → Ready (stateOf T (now (numbers .entry)) (now (flags .entry)) (now (marks .entry)) (now (carried .entry))) (now (plan .entry)) → Turns (stateOf T (now (numbers .entry)) (now (flags .entry)) (now (marks .entry)) (now (carried .entry))) r (stateOf T (now (numbers .exit)) (now (flags .exit)) (now (marks .exit)) (now (carried .exit))) (now (order .entry)) (now (known .entry)) (now (known .exit))) ⌝ }
+    ensures { λ r. ⌜ ((T : Tables) → let st = stateOf T (now (numbers .entry)) (now (flags .entry)) (now (marks .entry)) (now (carried .entry)) in Ready st (now (plan .entry)) → Turns st r (stateOf T (now (numbers .exit)) (now (flags .exit)) (now (marks .exit)) (now (carried .exit))) (now (order .entry)) (now (known .entry)) (now (known .exit))) ⌝ }
     ensures { λ r. ⌜ Ranged (now (known .exit)) × (r ≤ n) ⌝ }
 {
     let next = search::next_step(plan, order, numbers, flags, marks, carried, known);
@@ -381,7 +381,7 @@ fn take_settle<'a, 'b>(
     carried: &'b mut [u16; 2048],
 ) -> u32
     requires { ⌜ Runs (now numbers) (now flags) (now marks) (now carried) (now plan) ⌝ }
-    ensures { λ r. ⌜ ((T : Tables) → Ready (stateOf T (now (numbers .entry)) (now (flags .entry)) (now (marks .entry)) (now (carried .entry))) (now (plan .entry)) → (Answer.Settled r ≡ settleDone (stateOf T (now (numbers .entry)) (now (flags .entry)) (now (marks .entry)) (now (carried .entry))) .answer) × ((stateOf T (now (numbers .exit)) (now (flags .exit)) (now (marks .exit)) (now (carried .exit))) ≡ settleDone (stateOf T (now (numbers .entry)) (now (flags .entry)) (now (marks .entry)) (now (carried .entry))) .next)) ⌝ }
+    ensures { λ r. ⌜ ((T : Tables) → let st = stateOf T (now (numbers .entry)) (now (flags .entry)) (now (marks .entry)) (now (carried .entry)) in Ready st (now (plan .entry)) → (Answer.Settled r ≡ settleDone st .answer) × ((stateOf T (now (numbers .exit)) (now (flags .exit)) (now (marks .exit)) (now (carried .exit))) ≡ settleDone st .next)) ⌝ }
 {
     let order = order::order_of(plan, numbers);
     let mut known = search::first_known();
@@ -416,7 +416,7 @@ pub fn take_in<'a, 'b>(
     x: Step,
 ) -> Answer
     requires { ⌜ Runs (now numbers) (now flags) (now marks) (now carried) (now plan) ⌝ }
-    ensures { λ r. ⌜ ((T : Tables) → Ready (stateOf T (now (numbers .entry)) (now (flags .entry)) (now (marks .entry)) (now (carried .entry))) (now (plan .entry)) → Takes (stateOf T (now (numbers .entry)) (now (flags .entry)) (now (marks .entry)) (now (carried .entry))) x r (stateOf T (now (numbers .exit)) (now (flags .exit)) (now (marks .exit)) (now (carried .exit)))) ⌝ }
+    ensures { λ r. ⌜ ((T : Tables) → let st = stateOf T (now (numbers .entry)) (now (flags .entry)) (now (marks .entry)) (now (carried .entry)) in Ready st (now (plan .entry)) → Takes st x r (stateOf T (now (numbers .exit)) (now (flags .exit)) (now (marks .exit)) (now (carried .exit)))) ⌝ }
 {
     match x {
         Step::Read { t, i, s } => take_read(plan, numbers, flags, t, i, s),
@@ -439,7 +439,7 @@ pub fn take_next<'a, 'b>(
     x: Step,
 ) -> Answer
     requires { ⌜ Runs (now numbers) (now flags) (now marks) (now carried) (now plan) ⌝ }
-    ensures { λ r. ⌜ ((T : Tables) → Ready (stateOf T (now (numbers .entry)) (now (flags .entry)) (now (marks .entry)) (now (carried .entry))) (now (plan .entry)) → (idle ≡ true → todo (stateOf T (now (numbers .entry)) (now (flags .entry)) (now (marks .entry)) (now (carried .entry))) ≡ Nothing) → Takes (stateOf T (now (numbers .entry)) (now (flags .entry)) (now (marks .entry)) (now (carried .entry))) x r (stateOf T (now (numbers .exit)) (now (flags .exit)) (now (marks .exit)) (now (carried .exit)))) ⌝ }
+    ensures { λ r. ⌜ ((T : Tables) → let st = stateOf T (now (numbers .entry)) (now (flags .entry)) (now (marks .entry)) (now (carried .entry)) in Ready st (now (plan .entry)) → (idle ≡ true → todo st ≡ Nothing) → Takes st x r (stateOf T (now (numbers .exit)) (now (flags .exit)) (now (marks .exit)) (now (carried .exit)))) ⌝ }
 {
     if idle {
         if let Step::Settle = x {
