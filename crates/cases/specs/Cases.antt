@@ -27,9 +27,8 @@ use Rattle.machine.specs.Parts.{closedAt}
 use Rattle.rules.specs.Votes.{certifyIn, coversKey, coveredIn, allYesIn, verdictBy, roomIn}
 use Rattle.rules.specs.Fit.{countsFit, rowFits, txnFits, txnsFit, placesFit}
 use Rattle.machine.specs.Usable.{usable}
-use Rattle.refusals.specs.Refusals.{readRefusalIn, submitRefusalIn, deliverRefusalIn, voteRefusalIn, carryRefusalIn, verdictRefusalIn, closeRefusalIn}
+use Rattle.refusals.specs.Refusals.{readRefusalIn, submitRefusalIn, deliverRefusalIn, voteRefusalIn, carryRefusalIn, verdictRefusalIn, closeRefusalIn, refusalIn}
 use Rattle.search.specs.Search.{firstClosingIn, closesFirstIn, firstDeliveringIn, firstCarriedIn, firstFromIn, firstToIn, todoIn}
-use Rattle.machine.specs.Refusals.{refusal}
 use Rattle.machine.specs.Effects.{readDone, submitDone, deliverDone, carryDone, stored, committed, closeDone}
 use Rattle.machine.specs.Settle.{settleFor, settleDone}
 use Rattle.machine.specs.Steps.{done, decided, stepOf}
@@ -154,7 +153,7 @@ pub computed : each-gives cases ≡ true
 unfolding each-gives cases gives-it closedOf closedBy verdicts sames same text hexFrom listingOf linesOf stepLines verdictIn itemLines stateLines endOf answersOf digitsBy digitsOf fieldsOf lineOf each
     fileOf scheduleTurn readSchedule stepBy stepsFrom stepsOf taken ended turnOf setupTurn readSetup row withKeys withGroup withTxn allowed inSchedule judgeAt cutTurn cutOf walk ruleOf valuesFit pairsFit fits recordAt number
     freshOf Fresh.startOf done decided stepOf firstClosingIn closesFirstIn firstDeliveringIn firstCarriedIn firstFromIn firstToIn todoIn settleFor settleDone readDone submitDone deliverDone carryDone stored committed closeDone
-    readRefusalIn submitRefusalIn deliverRefusalIn voteRefusalIn carryRefusalIn verdictRefusalIn closeRefusalIn refusal countsFit rowFits txnFits txnsFit placesFit usable headIn blockedIn nextIn submittedIn certifyIn coversKey coveredIn allYesIn verdictBy roomIn
+    readRefusalIn submitRefusalIn deliverRefusalIn voteRefusalIn carryRefusalIn verdictRefusalIn closeRefusalIn refusalIn countsFit rowFits txnFits txnsFit placesFit usable headIn blockedIn nextIn submittedIn certifyIn coversKey coveredIn allYesIn verdictBy roomIn
     inRow twice present meets conflictIn someIn allIn touches inside local keysFrom keysRefusal sizeRefusal countRefusal keyRefusal txnRefusal someGroup endRefusal judge noTables
     member within adding anyBelow allBelow sumBelow firstBelow firstOf listFrom
 computed = refl

@@ -14,6 +14,7 @@ use Rattle.tables.specs.declared.Tables.{Tables}
 use Rattle.steps.specs.declared.Step.{Step}
 use Rattle.steps.specs.declared.Step.the-variants.{Read, Submit, Deliver, Carry, Close, Settle}
 use Rattle.steps.specs.declared.Answer.{Answer}
+use Rattle.refusals.specs.Refusals.{refusalIn}
 use Rattle.machine.specs.Parts.{placeOf}
 use Rattle.machine.specs.Usable.{usable}
 use Rattle.machine.specs.Refusals.{refusal}
@@ -64,7 +65,7 @@ module _ (T : Tables) (g : Taken T) where
     one x a d = moved st (after st x) 1 h (take-stands T g st x h a d) (then none (take T g st x h a d))
 
     done-counts : (x : Step) → refusal st x ≡ 0 → stepsDone (done st x .next) ≡ stepsIn (done st x .answer) + stepsDone st
-    unfolding done refusal
+    unfolding done refusalIn
     done-counts (Read t i s) e = unfold readDone doneOn in omega arith
     done-counts (Submit t) e = unfold submitDone doneOn in omega arith
     done-counts (Deliver s) e = unfold deliverDone in one (todo.Deliver s) e tt

@@ -14,7 +14,7 @@ use Rattle.tables.specs.Sites.{siteCount}
 use Rattle.tables.specs.declared.Tables.{Tables}
 use Rattle.steps.specs.declared.Step.{Step}
 use Rattle.steps.specs.declared.Step.the-variants.{Read, Submit, Deliver, Carry, Close, Settle}
-use Rattle.refusals.specs.Refusals.{carryRefusalIn, closeRefusalIn, deliverRefusalIn, readRefusalIn, submitRefusalIn, verdictRefusalIn, voteRefusalIn}
+use Rattle.refusals.specs.Refusals.{carryRefusalIn, closeRefusalIn, deliverRefusalIn, readRefusalIn, submitRefusalIn, verdictRefusalIn, voteRefusalIn, refusalIn}
 use Rattle.machine.specs.Parts.{placeOf, recordedOf, closedAt, castBy}
 use Rattle.machine.specs.Rules.{atHead, nextAt, verdict, roomAt}
 use Rattle.machine.specs.Usable.{usable}
@@ -142,7 +142,7 @@ module _ (st : State) where
 
 -- a step is accepted exactly if the protocol permits it
 pub permitted : (st : State) → usable st ≡ true → (x : Step) → (refusal st x ≡ 0) ↔ Permits st x
-unfolding refusal
+unfolding refusalIn
 permitted st h (Read t i s) = read-permits st t i s
 permitted st h (Submit t) = submit-permits st t
 permitted st h (Deliver s) = deliver-permits st (usable-has st h .txns) s

@@ -11,6 +11,7 @@ use Rattle.tables.specs.Judge.{judge}
 use Rattle.tables.specs.declared.Tables.{Tables}
 use Rattle.steps.specs.declared.Step.{Step}
 use Rattle.steps.specs.declared.Step.the-variants.{Read, Submit, Deliver, Carry, Close, Settle}
+use Rattle.refusals.specs.Refusals.{refusalIn}
 use Rattle.machine.specs.Parts.{versionAt}
 use Rattle.machine.specs.Usable.{usable}
 use Rattle.machine.specs.Refusals.{refusal, readRefusal, submitRefusal}
@@ -49,7 +50,7 @@ module _ (T : Tables) (g : Taken T) (st : State) (h : Stands T st) where
       (h .whole .tables) (λ g w. submit-step st t g (h .whole .arrays) w e) g (World.holds (planOf T) (h .reached))
 
   done-stands : (x : Step) → refusal st x ≡ 0 → Stands T (done st x .next)
-  unfolding done refusal
+  unfolding done refusalIn
   done-stands (Read t i s) e = record {
     whole = record { tables = unfold readDone in h .whole .tables; usable = still (Read t i s) e; arrays = read-arrays st t i s (h .whole .arrays) };
     handed = read-handed T st t i s (h .handed);

@@ -16,7 +16,8 @@ use Rattle.steps.specs.declared.Answer.the-variants as answer
 use Rattle.search.specs.Search.{closesFirstIn, firstCarriedIn, firstClosingIn, firstDeliveringIn, firstFromIn, firstToIn, todoIn}
 use Rattle.search.specs.Search.{nowhere}
 use Rattle.machine.specs.Usable.{usable}
-use Rattle.machine.specs.Refusals.{closeRefusal, deliverRefusal, carryRefusal, refusal}
+use Rattle.refusals.specs.Refusals.{refusalIn}
+use Rattle.machine.specs.Refusals.{closeRefusal, deliverRefusal, carryRefusal}
 use Rattle.machine.specs.Settle.{closesFirst, firstClosing, firstDelivering, firstTo, firstFrom, firstCarried, todo, after, most, settleFor, settleDone}
 use Rattle.machine.specs.Steps.{done}
 use Rattle.machine.specs.declared.State.{State}
@@ -179,9 +180,9 @@ module _ (st : State) (u : Usable st) where
 -- ---- again and again
 
 takes : (st : State) (x : Todo) → Arrays st → usable st ≡ true → Accepted st x → Some x → Does st (stepFor x) (done st (stepFor x) .answer) (after st x)
-takes st (Close t s) z h a d = unfold done refusal in does st z h (step.Close t s) a (λ e. differ (cc))
-takes st (Deliver s) z h a d = unfold done refusal in does st z h (step.Deliver s) a (λ e. differ (cc))
-takes st (Carry t from to) z h a d = unfold done refusal in does st z h (step.Carry t from to) a (λ e. differ (cc))
+takes st (Close t s) z h a d = unfold done refusalIn in does st z h (step.Close t s) a (λ e. differ (cc))
+takes st (Deliver s) z h a d = unfold done refusalIn in does st z h (step.Deliver s) a (λ e. differ (cc))
+takes st (Carry t from to) z h a d = unfold done refusalIn in does st z h (step.Carry t from to) a (λ e. differ (cc))
 takes st Nothing z h a d = absurd d
 
 -- to do means that a step is first

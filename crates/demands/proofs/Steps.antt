@@ -17,7 +17,7 @@ use Rattle.steps.specs.declared.Step.{Step}
 use Rattle.steps.specs.declared.Step.the-variants.{Read, Submit, Deliver, Carry, Close, Settle}
 use Rattle.steps.specs.declared.Answer.{Answer}
 use Rattle.steps.specs.declared.Answer.the-variants as answer
-use Rattle.refusals.specs.Refusals.{carryRefusalIn, closeRefusalIn, deliverRefusalIn, readRefusalIn, submitRefusalIn, verdictRefusalIn, voteRefusalIn}
+use Rattle.refusals.specs.Refusals.{carryRefusalIn, closeRefusalIn, deliverRefusalIn, readRefusalIn, submitRefusalIn, verdictRefusalIn, voteRefusalIn, refusalIn}
 use Rattle.machine.specs.Parts.{placeOf, recordedOf, deliveredAt, closedAt, castBy}
 use Rattle.machine.specs.Rules.{atHead, nextAt, blocked, holdsVoteOf, verdict, roomAt}
 use Rattle.machine.specs.Refusals.{refusal}
@@ -43,7 +43,7 @@ taken : (l : List ℕ) → (_≡_ {A = ℕ} 0 0 → ⊥) → OneOf l 0
 taken l h = absurd (h refl)
 
 refusal-listed : (st : State) (x : Step) → (refusal st x ≡ 0 → ⊥) → OneOf (listedFor x) (refusal st x)
-unfolding refusal readRefusalIn submitRefusalIn deliverRefusalIn voteRefusalIn carryRefusalIn verdictRefusalIn closeRefusalIn
+unfolding refusalIn readRefusalIn submitRefusalIn deliverRefusalIn voteRefusalIn carryRefusalIn verdictRefusalIn closeRefusalIn
 refusal-listed st (Read t i s) =
     let T = st .tables in
     let l = listedFor (Read t i s) in

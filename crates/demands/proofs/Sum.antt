@@ -19,9 +19,9 @@ use Rattle.tables.specs.Judge.{judge}
 use Rattle.tables.specs.declared.Tables.{Tables}
 use Rattle.steps.specs.declared.Step.{Step}
 use Rattle.steps.specs.declared.Step.the-variants as step
+use Rattle.refusals.specs.Refusals.{refusalIn}
 use Rattle.machine.specs.Parts.{placeOf, deliveredAt, closedAt, carriedTo}
 use Rattle.machine.specs.Usable.{usable}
-use Rattle.machine.specs.Refusals.{refusal}
 use Rattle.machine.specs.Settle.{settleDone}
 use Rattle.machine.specs.Steps.{done, decided, stepOf}
 use Rattle.machine.specs.Fresh.{freshOf}
@@ -166,7 +166,7 @@ module _ (st : State) (g : Taken (st .tables)) (k : Handed (st .tables) st) (r :
 
 -- on a usable state SETTLE is never refused
 settle-is : (st : State) → usable st ≡ true → stepOf st step.Settle ≡ settleDone st
-unfolding stepOf decided refusal done
+unfolding stepOf decided refusalIn done
 settle-is st h = rw h
 
 here : (st : State) → Taken (st .tables) → Stands (st .tables) st → Settles st

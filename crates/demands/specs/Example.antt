@@ -18,10 +18,9 @@ use Rattle.steps.specs.declared.Step.{Step}
 use Rattle.steps.specs.declared.Step.the-variants.{Read, Submit, Deliver, Settle}
 use Rattle.rules.specs.Votes.{certifyIn, coversKey, coveredIn, allYesIn, verdictBy, roomIn}
 use Rattle.rules.specs.Fit.{countsFit, rowFits, txnFits, txnsFit, placesFit}
-use Rattle.refusals.specs.Refusals.{carryRefusalIn, closeRefusalIn, deliverRefusalIn, readRefusalIn, submitRefusalIn, verdictRefusalIn, voteRefusalIn}
+use Rattle.refusals.specs.Refusals.{carryRefusalIn, closeRefusalIn, deliverRefusalIn, readRefusalIn, submitRefusalIn, verdictRefusalIn, voteRefusalIn, refusalIn}
 use Rattle.search.specs.Search.{closesFirstIn, firstCarriedIn, firstClosingIn, firstDeliveringIn, firstFromIn, firstToIn, todoIn}
 use Rattle.machine.specs.Usable.{usable}
-use Rattle.machine.specs.Refusals.{refusal}
 use Rattle.machine.specs.Effects.{readDone, submitDone, deliverDone, carryDone, stored, committed, closeDone}
 use Rattle.machine.specs.Settle.{settleFor, settleDone}
 use Rattle.machine.specs.Steps.{done, decided, stepOf}
@@ -62,7 +61,7 @@ at-the-end : let st = endOf (freshOf tables .state) steps in
     (1 ∷ 100 ∷ 2 ∷ 7 ∷ 10 ∷ 10 ∷ 10 ∷ [])
 unfolding endOf stepsOn doneOn stepsTaken slot whoseIn run chosen
     freshOf startOf done decided stepOf firstClosingIn closesFirstIn firstDeliveringIn firstCarriedIn firstFromIn firstToIn todoIn settleFor settleDone readDone submitDone deliverDone carryDone stored committed closeDone
-    readRefusalIn submitRefusalIn deliverRefusalIn voteRefusalIn carryRefusalIn verdictRefusalIn closeRefusalIn refusal countsFit rowFits txnFits txnsFit placesFit usable headIn blockedIn nextIn submittedIn certifyIn coversKey coveredIn allYesIn verdictBy roomIn
+    readRefusalIn submitRefusalIn deliverRefusalIn voteRefusalIn carryRefusalIn verdictRefusalIn closeRefusalIn refusalIn countsFit rowFits txnFits txnsFit placesFit usable headIn blockedIn nextIn submittedIn certifyIn coversKey coveredIn allYesIn verdictBy roomIn
     inRow twice present meets conflictIn someIn allIn touches inside local keysFrom keysRefusal sizeRefusal countRefusal keyRefusal txnRefusal someGroup endRefusal judge noTables
     member within adding anyBelow allBelow sumBelow firstBelow firstOf listFrom
 at-the-end = refl
@@ -72,7 +71,7 @@ answered : answersOf (freshOf tables .state) steps
     ≡ answer.Read (version 1) 100 ∷ answer.Read (version 1) 200 ∷ answer.Submitted (place 1) ∷ answer.Submitted (place 2) ∷ answer.Delivered 0 1 ∷ answer.Refused 27 ∷ answer.Settled 9 ∷ []
 unfolding answersOf
     freshOf startOf done decided stepOf firstClosingIn closesFirstIn firstDeliveringIn firstCarriedIn firstFromIn firstToIn todoIn settleFor settleDone readDone submitDone deliverDone carryDone stored committed closeDone
-    readRefusalIn submitRefusalIn deliverRefusalIn voteRefusalIn carryRefusalIn verdictRefusalIn closeRefusalIn refusal countsFit rowFits txnFits txnsFit placesFit usable headIn blockedIn nextIn submittedIn certifyIn coversKey coveredIn allYesIn verdictBy roomIn
+    readRefusalIn submitRefusalIn deliverRefusalIn voteRefusalIn carryRefusalIn verdictRefusalIn closeRefusalIn refusalIn countsFit rowFits txnFits txnsFit placesFit usable headIn blockedIn nextIn submittedIn certifyIn coversKey coveredIn allYesIn verdictBy roomIn
     inRow twice present meets conflictIn someIn allIn touches inside local keysFrom keysRefusal sizeRefusal countRefusal keyRefusal txnRefusal someGroup endRefusal judge noTables
     member within adding anyBelow allBelow sumBelow firstBelow firstOf listFrom
 answered = refl

@@ -11,7 +11,6 @@ use borrow.Author.Tests.{leb-true, leb-false, eqb-true}
 use Rattle.bounded.proofs.Truth.{and-true, or-false, passed}
 use Rattle.tables.specs.Judge.{sizeRefusal, countRefusal}
 use Rattle.records.specs.Rule.{ruleOf, fits, valuesFit, pairsLength, pairsFit}
-use Rattle.records.proofs.Record as R
 use Rattle.files.specs.Setup.{allowed}
 
 -- lengths by tag

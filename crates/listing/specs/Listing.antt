@@ -8,14 +8,12 @@ use lib.ListN.{length, take, drop}
 use Rattle.files.specs.Cut.{cutOf}
 use Rattle.files.specs.Schedule.{stepsOf}
 use Rattle.files.specs.File.{fileOf}
-use Rattle.files.specs.declared.File.{File}
 use Rattle.files.specs.declared.Outcome.{Outcome}
 use Rattle.files.specs.declared.Where.{Where}
 use Rattle.files.specs.declared.Where.the-variants.{InSetup, InSchedule}
 use Rattle.lines.specs.Lines.{stepLines, stateLines, fileLine}
 use Rattle.tables.specs.declared.Tables.{Tables}
 use Rattle.machine.specs.Fresh.{freshOf}
-use Rattle.machine.specs.declared.State.{State}
 use Rattle.files.specs.declared.Outcome.the-variants as outcome
 use Rattle.listing.specs.Run.{endOf, answersOf}
 

@@ -52,7 +52,7 @@ fn run(st: State, schedule: &[u8], out: &mut [u8], at: usize) -> Ran
             return Ran { state, next };
         };
         let x = files::step_by(tag, schedule, start);
-        let answer = machine::take_next(
+        let answer = machine::take_in(
             &plan,
             &mut numbers,
             &mut flags,

@@ -26,7 +26,7 @@ use Rattle.tables.specs.Judge.{keysRefusal, sizeRefusal, groupRefusal, countRef
 use Rattle.tables.specs.declared.Tables.{Tables}
 use Rattle.tables.proofs.Laws.{count-low, groups-low}
 use Rattle.rules.specs.Fit.{countsFit, rowFits, txnFits, txnsFit, placesFit}
-use Rattle.refusals.specs.Refusals.{submitRefusalIn}
+use Rattle.refusals.specs.Refusals.{submitRefusalIn, refusalIn}
 use Rattle.machine.specs.Parts.{placeOf, withClosed}
 use Rattle.machine.specs.Rules.{verdict}
 use Rattle.machine.specs.Usable.{usable}
@@ -72,7 +72,7 @@ submit-usable st t z h e =
     and-put _ _ c (and-put _ _ x (place-fits (st .places) (T .txns) t (submittedIn (st .places) (T .txns) + 1) (omega (arith, u .txns)) (omega (arith, u .txns, few-placed (st .places) (T .txns) t l p)) f))
 
 done-usable : (st : State) (x : Step) → length (st .places) ≡ 128 → usable st ≡ true → refusal st x ≡ 0 → usable (done st x .next) ≡ true
-unfolding done refusal settleDone
+unfolding done refusalIn settleDone
 done-usable st (Read t i s) z h e = unfold usable readDone in h
 done-usable st (Submit t) z h e = submit-usable st t z h e
 done-usable st (Deliver s) z h e = after-usable st (todo.Deliver s) h

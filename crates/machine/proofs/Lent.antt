@@ -21,14 +21,13 @@ use Rattle.layout.specs.Layout.{portion, theVersions, theValues, theReadVersion
 use Rattle.layout.proofs.Laws.{portion-at, portion-set, portion-other}
 use Rattle.layout.specs.Cells.{nobody}
 use Rattle.layout.proofs.Cells.{version-at, cast-at}
-use Rattle.refusals.specs.Refusals.{readRefusalIn, submitRefusalIn, deliverRefusalIn}
+use Rattle.refusals.specs.Refusals.{readRefusalIn, submitRefusalIn, deliverRefusalIn, refusalIn}
 use Rattle.refusals.proofs.Next.{next-low}
 use Rattle.machine.specs.Parts.{withRead, withPlace, withDelivery, withCarried, withClosed}
 use Rattle.machine.specs.Rules.{nextAt, voteOf}
 use Rattle.machine.specs.Refusals.{readRefusal, submitRefusal, deliverRefusal, carryRefusal, refusal}
 use Rattle.machine.specs.Effects.{readDone, submitDone, deliverDone, carryDone}
-use Rattle.machine.specs.Settle.{most, todo, settleDone}
-use Rattle.search.specs.declared.Todo.the-variants.{Nothing}
+use Rattle.machine.specs.Settle.{settleDone}
 use Rattle.machine.specs.Steps.{done, decided}
 use Rattle.machine.specs.Lent.{stateOf, Takes}
 use Rattle.machine.specs.declared.State.{State}
@@ -39,7 +38,7 @@ use Rattle.steps.specs.declared.Answer.the-variants as answer
 use Rattle.steps.specs.declared.Step.{Step}
 use Rattle.steps.specs.declared.Step.the-variants.{Read, Submit, Deliver, Carry, Settle}
 use Rattle.search.proofs.Frames.{carry-has}
-use Rattle.machine.proofs.Settle.{settle-stops, taken}
+use Rattle.machine.proofs.Settle.{taken}
 
 -- ---- a step refused or accepted
 
@@ -52,18 +51,13 @@ accepts st x z a next p q = rw (taken st x z) (p, q)
 
 -- SETTLE is accepted always
 pub settles : (st : State) (a : Answer) (next : State) → a ≡ settleDone st .answer → next ≡ settleDone st .next → Takes st Settle a next
-unfolding refusal done
+unfolding refusalIn done
 settles st a next p q = accepts st Settle refl a next p q
-
--- and does nothing where nothing is to do
-pub idles : (st : State) → todo st ≡ Nothing → Takes st Settle (answer.Settled 0) st
-unfolding settleDone
-idles st e = let q = settle-stops most 0 st (omega arith) e in settles st (answer.Settled 0) st (rw q) (rw q)
 
 -- DELIVER, where t is the next at s and v the vote on it
 pub delivers : (st : State) (s t v : ℕ) (next : State) → deliverRefusal st s ≡ 0 → t ≡ nextAt st s → v ≡ voteOf st t s → next ≡ withDelivery st t s v
     → Takes st (Deliver s) (answer.Delivered t v) next
-unfolding refusal done deliverDone
+unfolding refusalIn done deliverDone
 delivers st s t v next z e q h = accepts st (Deliver s) z (answer.Delivered t v) next (rw (← e, ← q)) (rw (← e, ← q) h)
 
 -- an answer and the state after it, as one
@@ -178,7 +172,7 @@ module _ (T : Tables) (numbers : List ℕ) (flags : List Bool) (marks carried : 
       → t * 8 + i < length flags → 3072 + (t * 8 + i) < length numbers
       → Takes (stateOf T numbers flags marks carried) (Read t i s) (answer.Read (version (getD numbers (s * 64 + k) 0)) (getD numbers (1024 + (s * 64 + k)) 0))
       (stateOf T (set (set numbers (2048 + (t * 8 + i)) (getD numbers (s * 64 + k) 0)) (3072 + (t * 8 + i)) (getD numbers (1024 + (s * 64 + k)) 0)) (set flags (t * 8 + i) true) marks carried)
-  unfolding refusal done readDone
+  unfolding refusalIn done readDone
   read-taken t i s k o e l z a b =
       let v = version-at numbers s k (o .site) l in
       let x = portion-at 0 (λ x. x) numbers 1024 1024 (s * 64 + k) 0 (omega (arith, o .site)) in
@@ -188,14 +182,14 @@ module _ (T : Tables) (numbers : List ℕ) (flags : List Bool) (marks carried : 
   pub submit-taken : (t p : ℕ) → t < 128 → p ≡ submittedIn (thePlaces numbers) (T .txns) + 1 → submitRefusal (stateOf T numbers flags marks carried) t ≡ 0
       → 4096 + t < length numbers
       → Takes (stateOf T numbers flags marks carried) (Submit t) (answer.Submitted (place p)) (stateOf T (set numbers (4096 + t) p) flags marks carried)
-  unfolding refusal done submitDone
+  unfolding refusalIn done submitDone
   submit-taken t p l e z b = accepts (stateOf T numbers flags marks carried) (Submit t) z _ _ (rw (← e)) (rw (← e) (place-lent t p l b))
 
   -- CARRY: the vote of f, which s did not have
   pub carry-taken : (t f s : ℕ) → Fits T → carryRefusal (stateOf T numbers flags marks carried) t f s ≡ 0
       → Takes (stateOf T numbers flags marks carried) (Carry t f s) (answer.Carried (getD marks (2048 + t * 16 + f) 0))
       (stateOf T numbers flags marks (set carried (t * 16 + s) (cond (member (getD carried (t * 16 + s) 0) f) (getD carried (t * 16 + s) 0) (adding (getD carried (t * 16 + s) 0) f))))
-  unfolding refusal done carryDone
+  unfolding refusalIn done carryDone
   carry-taken t f s h z =
       let k = carry-has T (theCast marks) carried t f s z in
       accepts (stateOf T numbers flags marks carried) (Carry t f s) z _ _ (rw (cast-at marks t f (omega (arith, k .txn, h .txns)) (omega (arith, k .giver, h .sites)))) (carried-lent t f s (k .lacks))

@@ -14,7 +14,8 @@ use Rattle.steps.specs.Kinds.{version}
 use Rattle.steps.specs.declared.Version.{Version}
 use Rattle.steps.specs.declared.Answer.the-variants as answer
 use Rattle.search.specs.Search.{Parts}
-use Rattle.search.specs.Known.{Knows, Closed, Carried, closedParts, deliveredParts, carriedParts}
+use Rattle.search.specs.Known.{Knows}
+use Rattle.known.specs.After.{Closed, Carried, closedParts, deliveredParts, carriedParts}
 use Rattle.search.proofs.Frames.{Closes, close-has, Carries, carry-has}
 use Rattle.search.specs.declared.Todo.{Todo}
 use Rattle.search.specs.declared.Todo.the-variants.{Close, Deliver, Carry, Nothing}
@@ -50,13 +51,7 @@ module _ (st : State) (ok : usable st ≡ true) where
   pub keys-low : (u i : ℕ) → u < st .tables .txns → i < writeCount (st .tables) u → writeKey (st .tables) u i < 64
   keys-low u i l m = let h = usable-has st ok in omega (arith, h .writes u l .low i m, h .keys)
 
--- the same step, with its numbers as the code has them
-pub named-close : {x y : Todo} {t t′ s s′ : ℕ} → y ≡ x → x ≡ Close t s → t′ ≡ t → s′ ≡ s → y ≡ Close t′ s′
-named-close a b e d = rw (e, d) (a ∙ b)
-
-pub named-deliver : {x y : Todo} {s s′ : ℕ} → y ≡ x → x ≡ Deliver s → s′ ≡ s → y ≡ Deliver s′
-named-deliver a b d = rw d (a ∙ b)
-
+-- the same step, with its number as the code has it
 pub named-carry : {x y : Todo} {t t′ from to : ℕ} → y ≡ x → x ≡ Carry t from to → t′ ≡ t → y ≡ Carry t′ from to
 named-carry a b e = rw e (a ∙ b)
 
@@ -172,6 +167,11 @@ Ended start st n = (answer.Settled n ≡ settleDone start .answer) × (st ≡ se
 -- from the one equation
 ended : (start st : State) (n : ℕ) → settleDone start ≡ giving (answer.Settled n) st → Ended start st n
 ended start st n e = (sym (ap (λ (r : Stepped). r .answer) e), sym (ap (λ (r : Stepped). r .next) e))
+
+-- with none where there is nothing to do
+pub ended-idle : (st : State) → todo st ≡ Nothing → Ended st st 0
+unfolding settleDone
+ended-idle st e = ended st st 0 (settle-stops most 0 st (omega arith) e)
 
 -- at the start nothing is taken yet
 pub going-first : (st : State) (order known : List ℕ) → usable st ≡ true → Knows (st .tables) (partsOf st) order known → Going st st 0 order known

@@ -1,36 +1,42 @@
--- A commit in the lent numbers: what it leaves, and one turn of it.
+-- A commit in the lent numbers is the machine's.
 -- Assumes nothing.
-use Prim.Native.Nat.{ℕ, zero, suc, _+_, _*_, _<_}
+use Prim.Native.Nat.{ℕ, zero, suc, _+_, _*_, _≤_, _<_}
 use mathlib.Core.Path.{_≡_, refl, sym, ap, _∙_}
-use mathlib.Core.Bool.{Bool, true, false, cond}
+use mathlib.Core.Bool.{Bool, true, false, _||_, not, cond}
 use mathlib.Core.Logic.{inl, inr}
 use mathlib.Core.List.{List}
 use native.Mathlib.Omega.{arith}
-use lib.Dec.{eqb}
+use lib.Dec.{eqb, ltb}
 use lib.ListN.{length, getD, set, length-set}
 use lib.Seq.{getD-set-other}
+use borrow.Author.Tests.{eqb-true, ltb-true}
+use Rattle.bounded.proofs.Laws.{all-get}
 use Rattle.tables.specs.Lists.{writeCount, writeKey, writeValue}
 use Rattle.tables.specs.Sites.{siteCount, holds}
 use Rattle.tables.specs.declared.Tables.{Tables}
 use Rattle.keys.specs.Keys.{member}
-use Rattle.plan.specs.Plan.{siteSet, writeAt, givenAt, writesOf, txnsOf, sitesOf}
+use Rattle.plan.specs.Plan.{siteSet, writeAt, givenAt, writesOf}
 use Rattle.layout.specs.Layout.{theVersions, theValues}
 use Rattle.layout.proofs.Laws.{portion-other}
 use Rattle.layout.proofs.Cells.{version-at}
+use Rattle.rules.specs.Votes.{roomIn}
+use Rattle.effects.specs.Written.{cellOf, written, Room, Inside}
+use Rattle.effects.proofs.Writes.{length-written, written-other}
 use Rattle.steps.specs.Kinds.{version, place}
-use Rattle.steps.specs.declared.Version.{Version}
+use Rattle.steps.specs.declared.Answer.the-variants as answer
+use Rattle.steps.specs.declared.Step.the-variants.{Close}
+use Rattle.refusals.specs.Refusals.{refusalIn}
 use Rattle.machine.specs.Parts.{versionAt, withClosed, withStores}
 use Rattle.machine.specs.Rules.{verdict, roomAt}
-use Rattle.machine.specs.Usable.{usable}
 use Rattle.machine.specs.Effects.{stored, versionsAfter, valuesAfter, committed, closeDone}
 use Rattle.machine.specs.Refusals.{closeRefusal}
-use Rattle.machine.specs.Lent.{stateOf, Ready}
+use Rattle.machine.specs.Lent.{stateOf, Ready, Takes}
 use Rattle.machine.specs.declared.State.{State}
-use Rattle.machine.proofs.Laws.{usable-has, row-apart}
-use Rattle.machine.proofs.Close.{stored-up, room-has}
 use Rattle.machine.specs.Settle.{partsOf}
+use Rattle.machine.specs.Steps.{done}
 use Rattle.search.proofs.Frames.{close-has}
-use Rattle.machine.proofs.Lent.{put-at, closed-lent}
+use Rattle.machine.proofs.Laws.{usable-has, row-apart}
+use Rattle.machine.proofs.Lent.{accepts, put-at, closed-lent}
 
 module _ {A : Type 0} (T : Tables) (t s : ℕ) (d : A) (f : ℕ → A → A) (l : List A) where
   -- a cell that no written key held by s has is as it was
@@ -44,18 +50,9 @@ module _ {A : Type 0} (T : Tables) (t s : ℕ) (d : A) (f : ℕ → A → A) (l 
       by true k e = getD-set-other (stored T t s d f l n) (s * 64 + writeKey T t n) j (f n (getD l (s * 64 + writeKey T t n) d)) d (h n (omega arith) k) ∙ e
       by false k e = e
 
--- a version raised
-abbrev pub raise : ℕ → Version → Version
-raise i v = version (v .0 + 1)
-
 -- the first i writes of t are committed at s
-abbrev pub partly : State → ℕ → ℕ → ℕ → State
+abbrev partly : State → ℕ → ℕ → ℕ → State
 partly st t s i = withStores st (versionsAfter st t s i) (valuesAfter st t s i)
-
--- at first none
-pub none-yet : (st : State) (t s : ℕ) → st ≡ partly st t s 0
-unfolding stored
-none-yet st t s = refl
 
 -- a version and a value stored
 stores-lent : (T : Tables) (numbers : List ℕ) (flags : List Bool) (marks carried : List ℕ) (j v x : ℕ) → j < 1024 → 1024 + j < length numbers
@@ -76,109 +73,115 @@ stores-lent T numbers flags marks carried j v x l b =
       portion-other 0 place numbers 4096 128 j v (inl (omega arith)),
     )
 
--- the turn for the i-th write
-module _ (T : Tables) (start numbers : List ℕ) (flags : List Bool) (marks carried : List ℕ) (t s i : ℕ)
-    (ok : usable (stateOf T start flags marks carried) ≡ true) (a : t < T .txns) (b : s < siteCount T) (l : i < writeCount T t)
-    (e : stateOf T numbers flags marks carried ≡ partly (stateOf T start flags marks carried) t s i) where
+module _ (T : Tables) (l : List ℕ) (flags : List Bool) (marks carried plan : List ℕ) (t s : ℕ)
+    (r : Ready (stateOf T l flags marks carried) plan) (a : t < T .txns) (b : s < siteCount T) where
   abbrev st : State
-  st = stateOf T start flags marks carried
+  st = stateOf T l flags marks carried
 
-  abbrev k : ℕ
-  k = writeKey T t i
+  -- the i-th write by the plan is that by the tables: its key, its value, and whether s holds the key
+  few : (i : ℕ) → i < writeCount T t → i < 8
+  few i h = omega (arith, h, usable-has st (r .1) .writes t a .few)
+
+  key : (i : ℕ) → i < writeCount T t → writeAt plan t i ≡ writeKey T t i
+  key i h = r .0 .writeKeys t i a (few i h)
+
+  given : (i : ℕ) → i < writeCount T t → givenAt plan t i ≡ writeValue T t i
+  given i h = r .0 .given t i a (few i h)
+
+  site : s < 16
+  site = omega (arith, b, usable-has st (r .1) .sites)
+
+  held : (i : ℕ) → i < writeCount T t → member (siteSet plan s) (writeAt plan t i) ≡ holds T s (writeKey T t i)
+  held i h = rw (key i h, r .0 .siteSets s site)
 
   -- its cell is in the stores
-  cell-low : (s < 16) × (k < 64)
-  cell-low = let u = usable-has st ok in (omega (arith, u .sites), omega (arith, u .writes t a .low i l, u .keys))
+  low : (i : ℕ) → i < writeCount T t → writeKey T t i < 64
+  low i h = let u = usable-has st (r .1) in omega (arith, u .writes t a .low i h, u .keys)
 
-  -- the version there is that before the commit
-  still : getD numbers (s * 64 + k) 0 ≡ versionAt st s k
-  still =
-      sym (version-at numbers s k (cell-low .0) (cell-low .1)) ∙ ap (λ (x : State). versionAt x s k) e
-      ∙ ap (λ (v : Version). v .0) (stored-other T t s (version 0) raise (theVersions start) i (s * 64 + k)
-      (λ j m _ q. let e = row-apart (T .writes) t (writeCount T t) i j (usable-has st ok .writes t a .once) l (omega arith) (omega arith) in absurd (omega arith)))
+  -- the writes before it store elsewhere
+  still : (i : ℕ) → i < writeCount T t → getD (written plan t s l i) (s * 64 + writeKey T t i) 0 ≡ versionAt st s (writeKey T t i)
+  still i h = written-other plan t s l i (s * 64 + writeKey T t i) apart ∙ sym (version-at l s (writeKey T t i) site (low i h))
+    where
+      apart : (j : ℕ) → j < i → (s * 64 + writeKey T t i ≡ cellOf plan t s j → ⊥) × (s * 64 + writeKey T t i ≡ 1024 + cellOf plan t s j → ⊥)
+      apart j m =
+          let k = key j (omega (arith, h)) in
+          let x = low i h in
+          let y = site in (
+            λ q. let e = row-apart (T .writes) t (writeCount T t) i j (usable-has st (r .1) .writes t a .once) h (omega (arith, h)) (omega (arith, q, k)) in absurd (omega (arith, e, m)),
+            λ q. absurd (omega (arith, q, x, y)),
+          )
 
-  -- where s holds the key it is stored, else nothing is
-  turn-stores : holds T s k ≡ true → 1024 + (s * 64 + k) < length numbers
-      → stateOf T (set (set numbers (s * 64 + k) (getD numbers (s * 64 + k) 0 + 1)) (1024 + (s * 64 + k)) (writeValue T t i)) flags marks carried ≡ partly st t s (i + 1)
-  turn-stores h z =
-      let j = s * 64 + k in
-      let v = version (getD numbers j 0 + 1) in
-      stores-lent T numbers flags marks carried j (getD numbers j 0 + 1) (writeValue T t i) (omega (arith, cell-low .0, cell-low .1)) z
-      ∙ ap (λ (x : State). withStores x (set (x .versions) j v) (set (x .values) j (writeValue T t i))) e
-      ∙ simp (still, stored-up, h)
+  -- where the commit has room, so have its writes
+  has-room : roomAt st t s ≡ true → Room plan t s l
+  unfolding roomIn
+  has-room room i h m =
+      let g : i < writeCount T t = omega (arith, h, r .0 .writes t a) in
+      rw (key i g, still i g)
+      (ltb-true _ _ (rw (sym (held i g) ∙ m) at (all-get (writeCount T t) (λ i. not (holds T s (writeKey T t i)) || ltb (versionAt st s (writeKey T t i)) 4294967295) room i g)))
 
-  turn-skips : holds T s k ≡ false → stateOf T numbers flags marks carried ≡ partly st t s (i + 1)
-  turn-skips h = e ∙ simp (stored-up, h)
+  -- n writes in the numbers are n writes in the state
+  partly-written : (n : ℕ) → n ≤ writeCount T t → Inside plan t s l n → stateOf T (written plan t s l n) flags marks carried ≡ partly st t s n
+  unfolding written stored
+  partly-written zero h z = refl
+  partly-written (suc i) h z = by (member (siteSet plan s) (writeAt plan t i)) refl (partly-written i (omega arith) (λ j m. z j (omega arith)))
+    where
+      by : (x : Bool) → member (siteSet plan s) (writeAt plan t i) ≡ x → stateOf T (written plan t s l i) flags marks carried ≡ partly st t s i
+          → stateOf T (cond x (set (set (written plan t s l i) (cellOf plan t s i) (getD (written plan t s l i) (cellOf plan t s i) 0 + 1)) (1024 + cellOf plan t s i) (givenAt plan t i)) (written plan t s l i)) flags marks carried
+          ≡ partly st t s (suc i)
+      by true q e =
+          let w = written plan t s l i in
+          let j = s * 64 + writeKey T t i in
+          let y = low i h in
+          let x = site in
+          rw (key i h, given i h)
+          (stores-lent T w flags marks carried j (getD w j 0 + 1) (writeValue T t i) (omega (arith, x, y)) (omega (arith, z i (omega arith) q, length-written plan t s l i, key i h))
+          ∙ ap (λ (x : State). withStores x (set (x .versions) j (version (getD w j 0 + 1))) (set (x .values) j (writeValue T t i))) e
+          ∙ rw (still i h, sym (held i h) ∙ q))
+      by false q e = e ∙ rw (sym (held i h) ∙ q)
 
--- the same turn by the plan: k is the key, w the same number widened, m the keys of s
-module _ (T : Tables) (start numbers : List ℕ) (flags : List Bool) (marks carried plan : List ℕ) (t s i m k : ℕ)
-    (r : Ready (stateOf T start flags marks carried) plan) (a : t < txnsOf plan) (b : s < sitesOf plan) (l : i < writesOf plan t)
-    (e : stateOf T numbers flags marks carried ≡ partly (stateOf T start flags marks carried) t s i)
-    (ms : m ≡ siteSet plan s) (ks : k ≡ writeAt plan t i) where
-  -- what the plan says of t, s and the write is so in the tables
-  txn : t < T .txns
-  txn = omega (arith, a, r .0 .txns)
+  -- a commit in the numbers is one of the state
+  commit-lent : Inside plan t s l (writesOf plan t) → stateOf T (written plan t s l (writesOf plan t)) flags marks carried ≡ committed st t s
+  unfolding committed
+  commit-lent z = let n = r .0 .writes t a in rw n (partly-written (writeCount T t) (omega arith) (rw n at z))
 
-  site : s < siteCount T
-  site = omega (arith, b, r .0 .sites)
+  -- if there is one
+  chosen : (x : Bool) → (x ≡ true → Inside plan t s l (writesOf plan t)) → stateOf T (cond x (written plan t s l (writesOf plan t)) l) flags marks carried ≡ cond x (committed st t s) st
+  chosen true h = commit-lent (h refl)
+  chosen false h = refl
 
-  write : i < writeCount T t
-  write = omega (arith, l, r .0 .writes t txn)
+-- CLOSE accepted: t is a transaction, s a site, and a commit has room
+pub close-may : (T : Tables) (l : List ℕ) (flags : List Bool) (marks carried plan : List ℕ) (t s : ℕ)
+    → Ready (stateOf T l flags marks carried) plan → closeRefusal (stateOf T l flags marks carried) t s ≡ 0
+    → (t < T .txns) × ((s < 16) × (verdict (stateOf T l flags marks carried) t s ≡ 1 → Room plan t s l))
+close-may T l flags marks carried plan t s r z =
+    let k = close-has T (partsOf (stateOf T l flags marks carried)) t s z in
+    (k .txn, (omega (arith, k .site, r .0 .fits .sites), λ v. has-room T l flags marks carried plan t s r (k .txn) (k .site) (k .room v)))
 
-  few : i < 8
-  few = omega (arith, write, usable-has (stateOf T start flags marks carried) (r .1) .writes t txn .few)
+-- CLOSE of t at s by the verdict v, in the arrays
+abbrev pub ClosedBy : List ℕ → List ℕ → List ℕ → List ℕ → List ℕ → ℕ → ℕ → ℕ → Type 0
+ClosedBy plan l l′ marks marks′ t s v =
+    (marks′ ≡ set marks (t * 16 + s) v)
+    × ((l′ ≡ cond (eqb v 1) (written plan t s l (writesOf plan t)) l) × (v ≡ 1 → Inside plan t s l (writesOf plan t)))
 
-  key : k ≡ writeKey T t i
-  key = ks ∙ r .0 .writeKeys t i txn few
-
-  -- and so is whether s holds the key
-  held : member m k ≡ holds T s (writeKey T t i)
-  held = rw (ms, key, r .0 .siteSets s (cell-low T start numbers flags marks carried t s i (r .1) txn site write e .0))
-
-  -- its cell is in the stores, and the version there has room
-  pub turn-low : (w : ℕ) → w ≡ k → s * 64 + w < 1024
-  turn-low w q = let (x, y) = cell-low T start numbers flags marks carried t s i (r .1) txn site write e in omega (arith, x, y, q, key)
-
-  pub turn-room : roomAt (stateOf T start flags marks carried) t s ≡ true → member m k ≡ true → (w : ℕ) → w ≡ k → getD numbers (s * 64 + w) 0 < 4294967295
-  turn-room room h w q =
-      rw (q, key, still T start numbers flags marks carried t s i (r .1) txn site write e)
-      (room-has (stateOf T start flags marks carried) t s i room write (sym held ∙ h))
-
-  -- the state after it, where s holds the key
-  pub turn-done : member m k ≡ true → (w x : ℕ) (mid next : List ℕ) → w ≡ k → x ≡ givenAt plan t i
-      → mid ≡ set numbers (s * 64 + w) (getD numbers (s * 64 + w) 0 + 1) → next ≡ set mid (1024 + (s * 64 + w)) x → 1024 + (s * 64 + w) < length mid
-      → stateOf T next flags marks carried ≡ partly (stateOf T start flags marks carried) t s (i + 1)
-  turn-done h w x mid next q g f n z =
-      let d : w ≡ writeKey T t i = q ∙ key in
-      let y : x ≡ writeValue T t i = g ∙ r .0 .given t i txn few in
-      rw (n, f, d, y) (turn-stores T start numbers flags marks carried t s i (r .1) txn site write e (sym held ∙ h)
-      (omega (arith, z, d, ap length f, length-set numbers (s * 64 + w) (getD numbers (s * 64 + w) 0 + 1))))
-
-  -- and where it does not
-  pub turn-left : member m k ≡ false → stateOf T numbers flags marks carried ≡ partly (stateOf T start flags marks carried) t s (i + 1)
-  turn-left h = turn-skips T start numbers flags marks carried t s i (r .1) txn site write e (sym held ∙ h)
-
--- after the last turn t is committed at s
-pub turns-done : (T : Tables) (start numbers : List ℕ) (flags : List Bool) (marks carried plan : List ℕ) (t s i : ℕ)
-    → Ready (stateOf T start flags marks carried) plan → t < txnsOf plan → i ≡ writesOf plan t
-    → stateOf T numbers flags marks carried ≡ partly (stateOf T start flags marks carried) t s i
-    → stateOf T numbers flags marks carried ≡ committed (stateOf T start flags marks carried) t s
-unfolding committed
-turns-done T start numbers flags marks carried plan t s i r a n e =
-    let z : i ≡ writeCount T t = n ∙ r .0 .writes t (omega (arith, a, r .0 .txns)) in
-    rw z at e
-
--- t closed at s by the verdict, after its commit, if it commits
-pub close-lent : (T : Tables) (start numbers : List ℕ) (flags : List Bool) (marks next carried : List ℕ) (t s v : ℕ)
-    → usable (stateOf T start flags marks carried) ≡ true → closeRefusal (stateOf T start flags marks carried) t s ≡ 0
-    → v ≡ verdict (stateOf T start flags marks carried) t s
-    → stateOf T numbers flags marks carried ≡ cond (eqb v 1) (committed (stateOf T start flags marks carried) t s) (stateOf T start flags marks carried)
-    → next ≡ set marks (t * 16 + s) v → t * 16 + s < length marks
-    → stateOf T numbers flags next carried ≡ closeDone (stateOf T start flags marks carried) t s .next
+-- is that of the state
+pub close-lent : (T : Tables) (l l′ : List ℕ) (flags : List Bool) (marks marks′ carried plan : List ℕ) (t s : ℕ)
+    → Ready (stateOf T l flags marks carried) plan → closeRefusal (stateOf T l flags marks carried) t s ≡ 0
+    → ClosedBy plan l l′ marks marks′ t s (verdict (stateOf T l flags marks carried) t s) → t * 16 + s < length marks
+    → stateOf T l′ flags marks′ carried ≡ closeDone (stateOf T l flags marks carried) t s .next
 unfolding closeDone
-close-lent T start numbers flags marks next carried t s v ok z e q n l =
-    let st = stateOf T start flags marks carried in
-    let u = usable-has st ok in
+close-lent T l l′ flags marks marks′ carried plan t s r z (m, (n, i)) b =
+    let st = stateOf T l flags marks carried in
+    let u = usable-has st (r .1) in
     let k = close-has T (partsOf st) t s z in
-    rw n (closed-lent T numbers flags marks carried t s v (omega (arith, u .txns, k .txn)) (omega (arith, u .sites, k .site)) l)
-    ∙ ap (λ (x : State). withClosed x t s v) q ∙ ap (λ (v : ℕ). withClosed (cond (eqb v 1) (committed st t s) st) t s v) e
+    let c = verdict st t s in
+    let e : stateOf T l′ flags marks carried ≡ cond (eqb c 1) (committed st t s) st = rw n (chosen T l flags marks carried plan t s r (k .txn) (k .site) (eqb c 1) (λ q. i (eqb-true c 1 q))) in
+    rw m (closed-lent T l′ flags marks carried t s c (omega (arith, u .txns, k .txn)) (omega (arith, u .sites, k .site)) b)
+    ∙ ap (λ (x : State). withClosed x t s c) e
+
+-- so CLOSE is the machine's step
+pub close-taken : (T : Tables) (l l′ : List ℕ) (flags : List Bool) (marks marks′ carried plan : List ℕ) (t s : ℕ)
+    → Ready (stateOf T l flags marks carried) plan → closeRefusal (stateOf T l flags marks carried) t s ≡ 0
+    → ClosedBy plan l l′ marks marks′ t s (verdict (stateOf T l flags marks carried) t s) → t * 16 + s < length marks
+    → Takes (stateOf T l flags marks carried) (Close t s) (answer.Closed (verdict (stateOf T l flags marks carried) t s)) (stateOf T l′ flags marks′ carried)
+unfolding refusalIn done closeDone
+close-taken T l l′ flags marks marks′ carried plan t s r z h b = accepts (stateOf T l flags marks carried) (Close t s) z _ _ refl (close-lent T l l′ flags marks marks′ carried plan t s r z h b)

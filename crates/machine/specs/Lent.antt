@@ -36,10 +36,7 @@ stateOf T numbers flags marks carried = record {
 abbrev pub Ready : State → List ℕ → Type 0
 Ready st plan = Plan (st .tables) plan × (usable st ≡ true)
 
--- some tables' plan; that of a state in these lists on which a step can run
-abbrev pub Planned : List ℕ → Type 0
-Planned plan = (T : Tables) × Plan T plan
-
+-- for some tables, of a state in these lists
 abbrev pub Runs : List ℕ → List Bool → List ℕ → List ℕ → List ℕ → Type 0
 Runs numbers flags marks carried plan = (T : Tables) × Ready (stateOf T numbers flags marks carried) plan
 

@@ -1,9 +1,8 @@
 -- The number that refuses a step, 0 where it is accepted, asked of a state.
 use Prim.Native.Nat.{ℕ}
-use Rattle.refusals.specs.Refusals.{readRefusalIn, submitRefusalIn, deliverRefusalIn, voteRefusalIn, carryRefusalIn, verdictRefusalIn, closeRefusalIn}
+use Rattle.refusals.specs.Refusals.{readRefusalIn, submitRefusalIn, deliverRefusalIn, voteRefusalIn, carryRefusalIn, verdictRefusalIn, closeRefusalIn, refusalIn}
 use Rattle.machine.specs.declared.State.{State}
 use Rattle.steps.specs.declared.Step.{Step}
-use Rattle.steps.specs.declared.Step.the-variants.{Read, Submit, Deliver, Carry, Close, Settle}
 
 abbrev pub readRefusal : State → ℕ → ℕ → ℕ → ℕ
 readRefusal st t i s = readRefusalIn (st .tables) (st .recorded) t i s
@@ -28,10 +27,6 @@ verdictRefusal st t s = verdictRefusalIn (st .tables) (st .versions) (st .places
 abbrev pub closeRefusal : State → ℕ → ℕ → ℕ
 closeRefusal st t s = closeRefusalIn (st .tables) (st .versions) (st .places) (st .delivered) (st .closed) (st .cast) (st .carried) t s
 
-unfoldable pub refusal : State → Step → ℕ
-refusal st (Read t i s) = readRefusal st t i s
-refusal st (Submit t) = submitRefusal st t
-refusal st (Deliver s) = deliverRefusal st s
-refusal st (Carry t from to) = carryRefusal st t from to
-refusal st (Close t s) = closeRefusal st t s
-refusal st Settle = 0
+-- of any step
+abbrev pub refusal : State → Step → ℕ
+refusal st x = refusalIn (st .tables) (st .versions) (st .places) (st .recorded) (st .delivered) (st .closed) (st .cast) (st .carried) x

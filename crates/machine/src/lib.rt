@@ -1,24 +1,19 @@
 // The machine: the state of all sites, the steps of the protocol and their answers.
 ghost use mathlib.Core.Path.{_≡_};
-ghost use mathlib.Core.Bool.{Bool, true};
-ghost use mathlib.Core.List.{List};
-ghost use Prim.Native.Nat.{ℕ, _≤_, _<_};
+ghost use mathlib.Core.Bool.{true};
+ghost use Prim.Native.Nat.{_≤_, _<_};
 ghost use lib.ListN.{getD};
 ghost use Rattle.tables.specs.declared.Tables.{Tables};
-ghost use Rattle.plan.specs.Plan.{txnsOf, sitesOf, Laid, Plan};
 ghost use Rattle.layout.specs.Layout.{theVersions, theValues, theReadVersions, theReadValues, thePlaces};
 ghost use Rattle.layout.specs.Cells.{nobody};
-ghost use Rattle.machine.specs.Parts.{withDelivery};
-ghost use Rattle.machine.specs.Rules.{nextAt, voteOf, verdict, roomAt};
+ghost use Rattle.machine.specs.Rules.{nextAt};
 ghost use Rattle.machine.specs.Usable.{usable};
-ghost use Rattle.machine.specs.Refusals.{closeRefusal};
-ghost use Rattle.machine.specs.Effects.{committed, closeDone};
 ghost use Rattle.machine.specs.Settle.{todo, settleDone};
 ghost use Rattle.search.specs.Search.{lent};
 ghost use Rattle.search.specs.Known.{Knows, Ranged};
 ghost use Rattle.search.specs.declared.Todo.the-variants.{Close, Deliver, Nothing};
 ghost use Rattle.machine.specs.Steps.{decided, stepOf};
-ghost use Rattle.machine.specs.Lent.{stateOf, Ready, Planned, Runs, Takes, Turns, idleAfter};
+ghost use Rattle.machine.specs.Lent.{stateOf, Ready, Runs, Takes, Turns, idleAfter};
 ghost use Rattle.machine.specs.Fresh.{startOf, freshOf};
 use search::Todo;
 use steps::Answer;
@@ -96,173 +91,6 @@ pub fn state_of<'a>(
     }
 }
 
-// READ: records the version and value of t's i-th read key at s.
-fn take_read<'a, 'b>(
-    plan: &'a [u64; 3666],
-    numbers: &'b mut [u32; 4224],
-    flags: &'b mut [bool; 3072],
-    t: u8,
-    i: u8,
-    s: u8,
-) -> Answer
-    requires { ⌜ Planned (now plan) ⌝ }
-    ensures { λ r. ⌜ ((T : Tables) (marks carried : List ℕ) → Plan T (now (plan .entry)) → Takes (stateOf T (now (numbers .entry)) (now (flags .entry)) marks carried) (Step.Read t i s) r (stateOf T (now (numbers .exit)) (now (flags .exit)) marks carried)) ⌝ }
-{
-    let n = refusals::read_refusal(plan, flags, t, i, s);
-    if n != 0 {
-        return Answer::Refused(n);
-    }
-    let at = wide(t) * 8 + wide(i);
-    let from = wide(s) * 64 + wide(plan::read_key(plan, wide(t), wide(i)));
-    let version = numbers[from];
-    let value = numbers[1024 + from];
-    layout::put_flag(flags, at);
-    layout::put_number(numbers, 2048 + at, version);
-    layout::put_number(numbers, 3072 + at, value);
-    Answer::Read(Version(version), value)
-}
-
-// SUBMIT: gives t the next place.
-fn take_submit<'a, 'b>(
-    plan: &'a [u64; 3666],
-    numbers: &'b mut [u32; 4224],
-    flags: &'a [bool; 3072],
-    t: u8,
-) -> Answer
-    requires { ⌜ Planned (now plan) ⌝ }
-    ensures { λ r. ⌜ ((T : Tables) (marks carried : List ℕ) → Plan T (now (plan .entry)) → Takes (stateOf T (now (numbers .entry)) (now (flags .entry)) marks carried) (Step.Submit t) r (stateOf T (now (numbers .exit)) (now (flags .entry)) marks carried)) ⌝ }
-{
-    let n = refusals::submit_refusal(plan, numbers, flags, t);
-    if n != 0 {
-        return Answer::Refused(n);
-    }
-    let place = queues::submitted(plan, numbers) + 1;
-    layout::put_number(numbers, 4096 + wide(t), place);
-    Answer::Submitted(Place(place))
-}
-
-// Puts t into the queue of s, with the vote of s, which is the answer.
-fn deliver_at<'a, 'b>(
-    plan: &'a [u64; 3666],
-    numbers: &'a [u32; 4224],
-    flags: &'b mut [bool; 3072],
-    marks: &'b mut [u8; 4096],
-    t: usize,
-    s: usize,
-) -> u8
-    requires { ⌜ Laid (now plan) ⌝ }
-    requires { ⌜ (t < txnsOf (now plan)) × (s < 16) ⌝ }
-    ensures { λ r. ⌜ ((T : Tables) (carried : List ℕ) → Plan T (now (plan .entry)) → (r ≡ voteOf (stateOf T (now (numbers .entry)) (now (flags .entry)) (now (marks .entry)) carried) t s) × (stateOf T (now (numbers .entry)) (now (flags .exit)) (now (marks .exit)) carried ≡ withDelivery (stateOf T (now (numbers .entry)) (now (flags .entry)) (now (marks .entry)) carried) t s r)) ⌝ }
-{
-    let vote = rules::vote(plan, numbers, flags, t, s);
-    layout::put_flag(flags, 1024 + t * 16 + s);
-    layout::put_mark(marks, 2048 + t * 16 + s, vote);
-    vote
-}
-
-// DELIVER: the next at s.
-fn take_deliver<'a, 'b>(
-    plan: &'a [u64; 3666],
-    numbers: &'a [u32; 4224],
-    flags: &'b mut [bool; 3072],
-    marks: &'b mut [u8; 4096],
-    s: u8,
-) -> Answer
-    requires { ⌜ Planned (now plan) ⌝ }
-    ensures { λ r. ⌜ ((T : Tables) (carried : List ℕ) → Plan T (now (plan .entry)) → Takes (stateOf T (now (numbers .entry)) (now (flags .entry)) (now (marks .entry)) carried) (Step.Deliver s) r (stateOf T (now (numbers .entry)) (now (flags .exit)) (now (marks .exit)) carried)) ⌝ }
-{
-    let n = refusals::deliver_refusal(plan, numbers, flags, marks, s);
-    if n != 0 {
-        return Answer::Refused(n);
-    }
-    let t = queues::next_at(plan, numbers, flags, wide(s));
-    let vote = deliver_at(plan, numbers, flags, marks, wide(t), wide(s));
-    Answer::Delivered { t, vote }
-}
-
-// CARRY: hands the vote of from on t to to.
-fn take_carry<'a, 'b>(
-    plan: &'a [u64; 3666],
-    marks: &'a [u8; 4096],
-    carried: &'b mut [u16; 2048],
-    t: u8,
-    from: u8,
-    to: u8,
-) -> Answer
-    requires { ⌜ Planned (now plan) ⌝ }
-    ensures { λ r. ⌜ ((T : Tables) (numbers : List ℕ) (flags : List Bool) → Plan T (now (plan .entry)) → Takes (stateOf T numbers flags (now (marks .entry)) (now (carried .entry))) (Step.Carry t «from» to) r (stateOf T numbers flags (now (marks .entry)) (now (carried .exit)))) ⌝ }
-{
-    let n = refusals::carry_refusal(plan, marks, carried, t, from, to);
-    if n != 0 {
-        return Answer::Refused(n);
-    }
-    rules::hand(carried, wide(t) * 16 + wide(to), wide(from));
-    Answer::Carried(marks[2048 + wide(t) * 16 + wide(from)])
-}
-
-// A commit of t at s: each key that it writes there has the next version and the value.
-fn commit<'a, 'b>(plan: &'a [u64; 3666], numbers: &'b mut [u32; 4224], t: usize, s: usize)
-    requires { ⌜ ((T : Tables) × ((flags : List Bool) × ((marks : List ℕ) × ((carried : List ℕ) × (Ready (stateOf T (now numbers) flags marks carried) (now plan) × (roomAt (stateOf T (now numbers) flags marks carried) t s ≡ true)))))) ⌝ }
-    requires { ⌜ (t < txnsOf (now plan)) × (s < sitesOf (now plan)) ⌝ }
-    ensures { λ _. ⌜ ((T : Tables) (flags : List Bool) (marks carried : List ℕ) → Ready (stateOf T (now (numbers .entry)) flags marks carried) (now (plan .entry)) → stateOf T (now (numbers .exit)) flags marks carried ≡ committed (stateOf T (now (numbers .entry)) flags marks carried) t s) ⌝ }
-{
-    let m = plan::site_set(plan, s);
-    let n = plan::writes(plan, t);
-    let mut i: usize = 0;
-    while i < n {
-        let k = plan::write_key(plan, t, i);
-        let x = plan::given(plan, t, i);
-        i += 1;
-        if keys::has_key(m, k) {
-            let at = s * 64 + wide(k);
-            let version = numbers[at];
-            layout::put_number(numbers, at, version + 1);
-            layout::put_number(numbers, 1024 + at, x);
-        }
-    }
-}
-
-// Closes t at s by its verdict, which is the answer.
-fn close_at<'a, 'b>(
-    plan: &'a [u64; 3666],
-    numbers: &'b mut [u32; 4224],
-    flags: &'a [bool; 3072],
-    marks: &'b mut [u8; 4096],
-    carried: &'a [u16; 2048],
-    t: usize,
-    s: usize,
-) -> u8
-    requires { ⌜ ((T : Tables) × (Ready (stateOf T (now numbers) (now flags) (now marks) (now carried)) (now plan) × (closeRefusal (stateOf T (now numbers) (now flags) (now marks) (now carried)) t s ≡ 0))) ⌝ }
-    ensures { λ r. ⌜ ((T : Tables) → let st = stateOf T (now (numbers .entry)) (now (flags .entry)) (now (marks .entry)) (now (carried .entry)) in Ready st (now (plan .entry)) → closeRefusal st t s ≡ 0 → (r ≡ verdict st t s) × (stateOf T (now (numbers .exit)) (now (flags .entry)) (now (marks .exit)) (now (carried .entry)) ≡ closeDone st t s .next)) ⌝ }
-{
-    let verdict = rules::verdict(plan, marks, carried, t, s);
-    if verdict == 1 {
-        commit(plan, numbers, t, s);
-    }
-    layout::put_mark(marks, t * 16 + s, verdict);
-    verdict
-}
-
-// CLOSE: t at s.
-fn take_close<'a, 'b>(
-    plan: &'a [u64; 3666],
-    numbers: &'b mut [u32; 4224],
-    flags: &'a [bool; 3072],
-    marks: &'b mut [u8; 4096],
-    carried: &'a [u16; 2048],
-    t: u8,
-    s: u8,
-) -> Answer
-    requires { ⌜ Runs (now numbers) (now flags) (now marks) (now carried) (now plan) ⌝ }
-    ensures { λ r. ⌜ ((T : Tables) → let st = stateOf T (now (numbers .entry)) (now (flags .entry)) (now (marks .entry)) (now (carried .entry)) in Ready st (now (plan .entry)) → Takes st (Step.Close t s) r (stateOf T (now (numbers .exit)) (now (flags .entry)) (now (marks .exit)) (now (carried .entry)))) ⌝ }
-{
-    let n = refusals::close_refusal(plan, numbers, flags, marks, carried, t, s);
-    if n != 0 {
-        return Answer::Refused(n);
-    }
-    Answer::Closed(close_at(plan, numbers, flags, marks, carried, wide(t), wide(s)))
-}
-
 // ---- SETTLE: the first step accepted among CLOSE, DELIVER and CARRY, until none is
 
 // CLOSE of t at s, where that comes next, and what is known after it.
@@ -274,16 +102,16 @@ fn close_next<'a, 'b>(
     marks: &'b mut [u8; 4096],
     carried: &'a [u16; 2048],
     known: &'b mut [u16; 209],
-    t: usize,
-    s: usize,
+    t: u8,
+    s: u8,
 )
     requires { ⌜ ((T : Tables) × (Ready (stateOf T (now numbers) (now flags) (now marks) (now carried)) (now plan) × (todo (stateOf T (now numbers) (now flags) (now marks) (now carried)) ≡ Close t s))) ⌝ }
     requires { ⌜ Ranged (now known) ⌝ }
     ensures { λ _. ⌜ ((T : Tables) → let st = stateOf T (now (numbers .entry)) (now (flags .entry)) (now (marks .entry)) (now (carried .entry)) in Ready st (now (plan .entry)) → todo st ≡ Close t s → Turns st 1 (stateOf T (now (numbers .exit)) (now (flags .entry)) (now (marks .exit)) (now (carried .entry))) (now (order .entry)) (now (known .entry)) (now (known .exit))) ⌝ }
     ensures { λ _. ⌜ Ranged (now (known .exit)) ⌝ }
 {
-    let _ = close_at(plan, numbers, flags, marks, carried, t, s);
-    search::after_close(order, flags, marks, known, s);
+    let _ = effects::close(plan, numbers, marks, carried, t, s);
+    known::after_close(order, flags, marks, known, wide(s));
 }
 
 // DELIVER at s of who stands at position p, where that comes next, and what is known after it.
@@ -295,7 +123,7 @@ fn deliver_next<'a, 'b>(
     marks: &'b mut [u8; 4096],
     carried: &'a [u16; 2048],
     known: &'b mut [u16; 209],
-    s: usize,
+    s: u8,
     p: u16,
 )
     requires { ⌜ ((T : Tables) × (Ready (stateOf T (now numbers) (now flags) (now marks) (now carried)) (now plan) × ((todo (stateOf T (now numbers) (now flags) (now marks) (now carried)) ≡ Deliver s) × (getD (now order) p nobody ≡ nextAt (stateOf T (now numbers) (now flags) (now marks) (now carried)) s)))) ⌝ }
@@ -304,8 +132,9 @@ fn deliver_next<'a, 'b>(
     ensures { λ _. ⌜ Ranged (now (known .exit)) ⌝ }
 {
     let t = order::at(order, p as usize);
-    let _ = deliver_at(plan, numbers, flags, marks, t, s);
-    search::after_deliver(plan, carried, known, t, s, p);
+    let site = wide(s);
+    let _ = effects::deliver_at(plan, numbers, flags, marks, t, site);
+    known::after_deliver(plan, carried, known, t, site, p);
 }
 
 // What comes next, taken: one CLOSE, one DELIVER, or up to n CARRYs; the answer is how many steps.
@@ -326,65 +155,41 @@ fn turn<'a, 'b>(
 {
     let next = search::next_step(plan, order, numbers, flags, marks, carried, known);
     let todo = next.0;
+    let p = next.1;
     match todo {
         Todo::Close { t, s } => {
-            close_next(
-                plan,
-                order,
-                numbers,
-                flags,
-                marks,
-                carried,
-                known,
-                wide(t),
-                wide(s),
-            );
+            close_next(plan, order, numbers, flags, marks, carried, known, t, s);
             1
         }
         Todo::Deliver(s) => {
-            deliver_next(
-                plan,
-                order,
-                numbers,
-                flags,
-                marks,
-                carried,
-                known,
-                wide(s),
-                next.1,
-            );
+            deliver_next(plan, order, numbers, flags, marks, carried, known, s, p);
             1
         }
         Todo::Carry { t, from: _, to: _ } => {
-            search::carry_on(
-                plan,
-                order,
-                numbers,
-                flags,
-                marks,
-                carried,
-                known,
-                wide(t),
-                n,
-            )
+            let t = wide(t);
+            known::carry_on(plan, order, numbers, flags, marks, carried, known, t, n)
         }
         Todo::Nothing => 0,
     }
 }
 
-// SETTLE; the answer is how many steps.
+// SETTLE, which may be known to have nothing to do; the answer is how many steps.
 fn take_settle<'a, 'b>(
     plan: &'a [u64; 3666],
     numbers: &'b mut [u32; 4224],
     flags: &'b mut [bool; 3072],
     marks: &'b mut [u8; 4096],
     carried: &'b mut [u16; 2048],
+    idle: bool,
 ) -> u32
     requires { ⌜ Runs (now numbers) (now flags) (now marks) (now carried) (now plan) ⌝ }
-    ensures { λ r. ⌜ ((T : Tables) → let st = stateOf T (now (numbers .entry)) (now (flags .entry)) (now (marks .entry)) (now (carried .entry)) in Ready st (now (plan .entry)) → (Answer.Settled r ≡ settleDone st .answer) × ((stateOf T (now (numbers .exit)) (now (flags .exit)) (now (marks .exit)) (now (carried .exit))) ≡ settleDone st .next)) ⌝ }
+    ensures { λ r. ⌜ ((T : Tables) → let st = stateOf T (now (numbers .entry)) (now (flags .entry)) (now (marks .entry)) (now (carried .entry)) in Ready st (now (plan .entry)) → (idle ≡ true → todo st ≡ Nothing) → (Answer.Settled r ≡ settleDone st .answer) × ((stateOf T (now (numbers .exit)) (now (flags .exit)) (now (marks .exit)) (now (carried .exit))) ≡ settleDone st .next)) ⌝ }
 {
+    if idle {
+        return 0;
+    }
     let order = order::order_of(plan, numbers);
-    let mut known = search::first_known();
+    let mut known = known::first_known();
     let mut n: u32 = 0;
     while n < 34816 {
         let k = turn(
@@ -407,29 +212,8 @@ fn take_settle<'a, 'b>(
 
 // ---- any step
 
+// A step on a state that it can run on; SETTLE may be known to have nothing to do.
 pub fn take_in<'a, 'b>(
-    plan: &'a [u64; 3666],
-    numbers: &'b mut [u32; 4224],
-    flags: &'b mut [bool; 3072],
-    marks: &'b mut [u8; 4096],
-    carried: &'b mut [u16; 2048],
-    x: Step,
-) -> Answer
-    requires { ⌜ Runs (now numbers) (now flags) (now marks) (now carried) (now plan) ⌝ }
-    ensures { λ r. ⌜ ((T : Tables) → let st = stateOf T (now (numbers .entry)) (now (flags .entry)) (now (marks .entry)) (now (carried .entry)) in Ready st (now (plan .entry)) → Takes st x r (stateOf T (now (numbers .exit)) (now (flags .exit)) (now (marks .exit)) (now (carried .exit)))) ⌝ }
-{
-    match x {
-        Step::Read { t, i, s } => take_read(plan, numbers, flags, t, i, s),
-        Step::Submit(t) => take_submit(plan, numbers, flags, t),
-        Step::Deliver(s) => take_deliver(plan, numbers, flags, marks, s),
-        Step::Carry { t, from, to } => take_carry(plan, marks, carried, t, from, to),
-        Step::Close { t, s } => take_close(plan, numbers, flags, marks, carried, t, s),
-        Step::Settle => Answer::Settled(take_settle(plan, numbers, flags, marks, carried)),
-    }
-}
-
-// The same, where SETTLE may be known to have nothing to do.
-pub fn take_next<'a, 'b>(
     plan: &'a [u64; 3666],
     numbers: &'b mut [u32; 4224],
     flags: &'b mut [bool; 3072],
@@ -441,12 +225,18 @@ pub fn take_next<'a, 'b>(
     requires { ⌜ Runs (now numbers) (now flags) (now marks) (now carried) (now plan) ⌝ }
     ensures { λ r. ⌜ ((T : Tables) → let st = stateOf T (now (numbers .entry)) (now (flags .entry)) (now (marks .entry)) (now (carried .entry)) in Ready st (now (plan .entry)) → (idle ≡ true → todo st ≡ Nothing) → Takes st x r (stateOf T (now (numbers .exit)) (now (flags .exit)) (now (marks .exit)) (now (carried .exit)))) ⌝ }
 {
-    if idle {
-        if let Step::Settle = x {
-            return Answer::Settled(0);
-        }
+    let n = refusals::refusal(plan, numbers, flags, marks, carried, x);
+    if n != 0 {
+        return Answer::Refused(n);
     }
-    take_in(plan, numbers, flags, marks, carried, x)
+    match x {
+        Step::Read { t, i, s } => effects::read(plan, numbers, flags, t, i, s),
+        Step::Submit(t) => effects::submit(plan, numbers, t),
+        Step::Deliver(s) => effects::deliver(plan, numbers, flags, marks, s),
+        Step::Carry { t, from, to } => effects::carry(marks, carried, t, from, to),
+        Step::Close { t, s } => effects::close(plan, numbers, marks, carried, t, s),
+        Step::Settle => Answer::Settled(take_settle(plan, numbers, flags, marks, carried, idle)),
+    }
 }
 
 // Whether SETTLE is known to have nothing to do after such an answer.
@@ -516,7 +306,15 @@ impl State {
         let mut flags = layout::flags_of(&self.recorded, &self.delivered);
         let mut marks = layout::marks_of(&self.closed, &self.cast);
         let mut carried = self.carried;
-        let answer = take_in(&plan, &mut numbers, &mut flags, &mut marks, &mut carried, x);
+        let answer = take_in(
+            &plan,
+            &mut numbers,
+            &mut flags,
+            &mut marks,
+            &mut carried,
+            false,
+            x,
+        );
         let next = state_of(tables, &numbers, &flags, &marks, carried);
         Stepped { answer, next }
     }

@@ -1,13 +1,13 @@
 // The plan of the tables: one array that can be lent, with the sets of keys and sites by which the protocol's questions are answered.
 ghost use mathlib.Core.Path.{_≡_};
 ghost use mathlib.Core.Bool.{_&&_, true};
-ghost use Prim.Native.Nat.{ℕ, _+_, _*_, _^_, _≤_, _<_};
+ghost use Prim.Native.Nat.{ℕ, _+_, _*_, _≤_, _<_};
 ghost use mathlib.Core.Logic.{_⊎_};
 ghost use lib.Dec.{ltb};
 ghost use lib.ListN.{getD};
 ghost use Rattle.keys.specs.Keys.{member};
 ghost use Rattle.tables.specs.Lists.{rowAt, inRow, conflict};
-ghost use Rattle.tables.specs.Sites.{siteCount, keysFrom, holds};
+ghost use Rattle.tables.specs.Sites.{keysFrom};
 ghost use Rattle.tables.specs.Concern.{votes, concerns, local};
 ghost use Rattle.tables.specs.Fits.{Fits};
 ghost use Rattle.tables.specs.declared.Tables.{Tables};

@@ -9,7 +9,6 @@ ghost use Rattle.tables.specs.declared.Tables.{Tables};
 ghost use Rattle.plan.specs.Plan.{txnsOf, Laid, Plan};
 ghost use Rattle.layout.specs.Layout.{thePlaces, theDelivered, theClosed};
 ghost use Rattle.layout.specs.Cells.{placeIn, cell};
-use steps::Place;
 use tables::wide;
 
 // Whether t waits at s.

@@ -14,6 +14,8 @@ use Rattle.rules.specs.Votes.{holdsVote}
 use Rattle.rules.specs.Asked.{verdictAt, roomOf}
 use Rattle.steps.specs.declared.Place.{Place}
 use Rattle.steps.specs.declared.Version.{Version}
+use Rattle.steps.specs.declared.Step.{Step}
+use Rattle.steps.specs.declared.Step.the-variants.{Read, Submit, Deliver, Carry, Close, Settle}
 
 -- READ: no such transaction, read, site; the site lacks the key; recorded before
 unfoldable pub readRefusalIn : Tables → List Bool → ℕ → ℕ → ℕ → ℕ
@@ -72,3 +74,12 @@ closeRefusalIn T versions places delivered closed cast carried t s =
     (cond (ltb 0 (cell 0 closed t s)) 24
     (cond (not (cell false delivered t s)) 29
     (verdictRefusalIn T versions places delivered closed cast carried t s)))))
+
+-- of any step
+unfoldable pub refusalIn : Tables → List Version → List Place → List Bool → List Bool → List ℕ → List ℕ → List ℕ → Step → ℕ
+refusalIn T versions places recorded delivered closed cast carried (Read t i s) = readRefusalIn T recorded t i s
+refusalIn T versions places recorded delivered closed cast carried (Submit t) = submitRefusalIn T places recorded t
+refusalIn T versions places recorded delivered closed cast carried (Deliver s) = deliverRefusalIn T places delivered closed s
+refusalIn T versions places recorded delivered closed cast carried (Carry t from to) = carryRefusalIn T cast carried t from to
+refusalIn T versions places recorded delivered closed cast carried (Close t s) = closeRefusalIn T versions places delivered closed cast carried t s
+refusalIn T versions places recorded delivered closed cast carried Settle = 0

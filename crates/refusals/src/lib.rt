@@ -2,14 +2,15 @@
 ghost use mathlib.Core.Path.{_≡_};
 ghost use Prim.Native.Nat.{_<_};
 ghost use Rattle.tables.specs.declared.Tables.{Tables};
-ghost use Rattle.plan.specs.Plan.{txnsOf, sitesOf, Laid, Plan};
+ghost use Rattle.plan.specs.Plan.{txnsOf, Laid, Plan};
 ghost use Rattle.layout.specs.Layout.{theVersions, thePlaces, theRecorded, theDelivered, theClosed, theCast};
-ghost use Rattle.refusals.specs.Refusals.{readRefusalIn, submitRefusalIn, deliverRefusalIn, voteRefusalIn, carryRefusalIn, verdictRefusalIn, closeRefusalIn};
+ghost use Rattle.refusals.specs.Refusals.{readRefusalIn, submitRefusalIn, deliverRefusalIn, voteRefusalIn, carryRefusalIn, verdictRefusalIn, closeRefusalIn, refusalIn};
+use steps::Step;
 use tables::wide;
 
 // ---- READ and SUBMIT
 
-pub fn read_refusal<'a>(plan: &'a [u64; 3666], flags: &'a [bool; 3072], t: u8, i: u8, s: u8) -> u8
+fn read_refusal<'a>(plan: &'a [u64; 3666], flags: &'a [bool; 3072], t: u8, i: u8, s: u8) -> u8
     requires { ⌜ Laid (now plan) ⌝ }
     ensures { λ r. ⌜ ((T : Tables) → Plan T (now (plan .entry)) → r ≡ readRefusalIn T (theRecorded (now (flags .entry))) t i s) ⌝ }
 {
@@ -34,7 +35,7 @@ pub fn read_refusal<'a>(plan: &'a [u64; 3666], flags: &'a [bool; 3072], t: u8, i
     23
 }
 
-pub fn submit_refusal<'a>(
+fn submit_refusal<'a>(
     plan: &'a [u64; 3666],
     numbers: &'a [u32; 4224],
     flags: &'a [bool; 3072],
@@ -58,7 +59,7 @@ pub fn submit_refusal<'a>(
 
 // ---- DELIVER
 
-pub fn deliver_refusal<'a>(
+fn deliver_refusal<'a>(
     plan: &'a [u64; 3666],
     numbers: &'a [u32; 4224],
     flags: &'a [bool; 3072],
@@ -112,7 +113,7 @@ fn vote_refusal<'a>(
     0
 }
 
-pub fn carry_refusal<'a>(
+fn carry_refusal<'a>(
     plan: &'a [u64; 3666],
     marks: &'a [u8; 4096],
     carried: &'a [u16; 2048],
@@ -173,7 +174,7 @@ fn verdict_refusal<'a>(
     0
 }
 
-pub fn close_refusal<'a>(
+fn close_refusal<'a>(
     plan: &'a [u64; 3666],
     numbers: &'a [u32; 4224],
     flags: &'a [bool; 3072],
@@ -203,4 +204,27 @@ pub fn close_refusal<'a>(
         return 29;
     }
     23
+}
+
+// ---- any step
+
+pub fn refusal<'a>(
+    plan: &'a [u64; 3666],
+    numbers: &'a [u32; 4224],
+    flags: &'a [bool; 3072],
+    marks: &'a [u8; 4096],
+    carried: &'a [u16; 2048],
+    x: Step,
+) -> u8
+    requires { ⌜ Laid (now plan) ⌝ }
+    ensures { λ r. ⌜ ((T : Tables) → Plan T (now (plan .entry)) → r ≡ refusalIn T (theVersions (now (numbers .entry))) (thePlaces (now (numbers .entry))) (theRecorded (now (flags .entry))) (theDelivered (now (flags .entry))) (theClosed (now (marks .entry))) (theCast (now (marks .entry))) (now (carried .entry)) x) ⌝ }
+{
+    match x {
+        Step::Read { t, i, s } => read_refusal(plan, flags, t, i, s),
+        Step::Submit(t) => submit_refusal(plan, numbers, flags, t),
+        Step::Deliver(s) => deliver_refusal(plan, numbers, flags, marks, s),
+        Step::Carry { t, from, to } => carry_refusal(plan, marks, carried, t, from, to),
+        Step::Close { t, s } => close_refusal(plan, numbers, flags, marks, carried, t, s),
+        Step::Settle => 0,
+    }
 }

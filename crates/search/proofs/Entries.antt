@@ -1,27 +1,22 @@
 -- What is known, entry by entry of the list that holds it, and after a store.
 -- Assumes nothing.
 use Prim.Native.Nat.{ℕ, _+_, _<_}
-use mathlib.Core.Path.{_≡_, sym, ap, _∙_}
-use mathlib.Core.Bool.{Bool, true, false}
+use mathlib.Core.Path.{_≡_, ap, _∙_}
+use mathlib.Core.Bool.{true, false}
 use mathlib.Core.List.{List}
-use mathlib.Core.Logic.{inl, inr}
 use native.Mathlib.Omega.{arith}
-use lib.Dec.{eqb, ltb}
-use lib.ListN.{length, getD, set, List·getD-eq-default}
+use lib.Dec.{eqb}
+use lib.ListN.{length, getD, set}
 use lib.Seq.{getD-set-same, getD-set-other}
-use borrow.Author.Tests.{eq-eqb, eqb-true, ltb-true, ltb-false}
-use Rattle.bounded.proofs.Truth.{bool, clash}
+use borrow.Author.Tests.{eq-eqb}
 use Rattle.tables.specs.declared.Tables.{Tables}
-use Rattle.layout.proofs.Laws.{portion-at, portion-length}
+use Rattle.layout.proofs.Laws.{portion-at}
 use Rattle.layout.specs.Cells.{nobody}
-use Rattle.steps.specs.declared.Place.{Place}
-use Rattle.refusals.specs.Refusals.{deliverRefusalIn}
 use Rattle.search.specs.Search.{Parts}
-use Rattle.search.specs.Known.{any, KnowsClosing, KnowsAt, KnowsStuck, PassedTo, KnowsPassed, codesIn, stuckIn, passedIn}
-use Rattle.search.proofs.Tried.{excludes-none}
+use Rattle.search.specs.Known.{any, KnowsClosing, KnowsAt, codesIn, stuckIn, passedIn}
 
 -- the code of site s
-code-at : (l : List ℕ) (s : ℕ) → s < 16 → getD (codesIn l) s any ≡ getD l s 0
+pub code-at : (l : List ℕ) (s : ℕ) → s < 16 → getD (codesIn l) s any ≡ getD l s 0
 code-at l s h = portion-at 0 (λ c. c) l 0 16 s any h ∙ ap (λ k. getD l k 0) (omega arith)
 
 -- the pairs passed of t
@@ -31,36 +26,9 @@ passed-is l t h = portion-at 0 (λ p. p) l 80 128 t 0 h
 pub closing-get : (T : Tables) (w : Parts) (l : List ℕ) → KnowsClosing T w (codesIn l) → (s : ℕ) → s < 16 → KnowsAt T w s (getD l s 0)
 closing-get T w l k s h t x z = k s t (rw (code-at l s h) x) z
 
-pub closing-put : (T : Tables) (w : Parts) (l : List ℕ) → ((s : ℕ) → s < 16 → KnowsAt T w s (getD l s 0)) → KnowsClosing T w (codesIn l)
-closing-put T w l h s t x z = elim (bool (ltb s 16)) [
-  | inl e ↦ let q = ltb-true s 16 e in h s q t (rw (code-at l s q) at x) z
-  | inr e ↦ excludes-none (getD (codesIn l) s any) t
-      (List·getD-eq-default (codesIn l) any (omega (arith, portion-length 0 (λ (c : ℕ). c) l 0 16, ltb-false s 16 e))) x
-]
-
 -- s is stuck
 pub stuck-is : (l : List ℕ) (s : ℕ) → s < 16 → getD l (16 + s) 0 ≡ 1 → getD (stuckIn l) s false ≡ true
 stuck-is l s h e = portion-at 0 (λ x. eqb x 1) l 16 16 s false h ∙ eq-eqb (getD l (16 + s) 0) 1 e
-
-module _ (T : Tables) (places : List Place) (delivered : List Bool) (closed l : List ℕ) where
-  pub stuck-get : KnowsStuck T places delivered closed (stuckIn l) → (s : ℕ) → s < 16 → getD l (16 + s) 0 ≡ 1 → deliverRefusalIn T places delivered closed s ≡ 0 → ⊥
-  stuck-get k s h e z = k s (stuck-is l s h e) z
-
-  pub stuck-put : ((s : ℕ) → s < 16 → getD l (16 + s) 0 ≡ 1 → deliverRefusalIn T places delivered closed s ≡ 0 → ⊥) → KnowsStuck T places delivered closed (stuckIn l)
-  stuck-put h s x z = elim (bool (ltb s 16)) [
-    | inl e ↦ let q = ltb-true s 16 e in h s q (eqb-true _ _ (sym (portion-at 0 (λ x. eqb x 1) l 16 16 s false q) ∙ x)) z
-    | inr e ↦ clash x (List·getD-eq-default (stuckIn l) false (omega (arith, portion-length 0 (λ x. eqb x 1) l 16 16, ltb-false s 16 e)))
-  ]
-
-module _ (T : Tables) (cast carried l : List ℕ) where
-  pub passed-get : KnowsPassed T cast carried (passedIn l) → (t : ℕ) → t < 128 → PassedTo T cast carried t (getD l (80 + t) 0)
-  passed-get k t h = rw (passed-is l t h) at (k t)
-
-  pub passed-put : ((t : ℕ) → t < 128 → PassedTo T cast carried t (getD l (80 + t) 0)) → KnowsPassed T cast carried (passedIn l)
-  passed-put h t = elim (bool (ltb t 128)) [
-    | inl e ↦ let q = ltb-true t 128 e in rw (passed-is l t q) (h t q)
-    | inr e ↦ λ p m. absurd (omega (arith, List·getD-eq-default (passedIn l) 0 {n = t} (omega (arith, portion-length 0 (λ (p : ℕ). p) l 80 128, ltb-false t 128 e))))
-  ]
 
 -- ---- a store of x at i
 

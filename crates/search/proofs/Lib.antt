@@ -6,5 +6,3 @@ pub mod Entries
 pub mod Stored
 pub mod Closing
 pub mod Carrying
-pub mod Knows
-pub mod Handing

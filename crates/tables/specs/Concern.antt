@@ -5,7 +5,7 @@ use mathlib.Core.List.{List}
 use lib.ListN.{getD}
 use Rattle.bounded.specs.Bounded.{anyBelow, allBelow}
 use Rattle.keys.specs.Keys.{member}
-use Rattle.tables.specs.Lists.{rowAt, readCount, writeCount}
+use Rattle.tables.specs.Lists.{rowAt, readCount}
 use Rattle.tables.specs.Sites.{siteCount, siteKeys}
 use Rattle.tables.specs.declared.Tables.{Tables}
 

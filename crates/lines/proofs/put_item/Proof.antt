@@ -1,6 +1,5 @@
 -- `lines::put_item` meets its contract. A line, or nothing where the key is not in the set.
 use Rattle.text.proofs.Laws.{nothing}
-use native.Mathlib.Omega.{arith}
 use borrow.Author.Needs.{needs}
 use Rattle.lines.proofs.put_item.Tie as tie
 use Rattle.lines.proofs.put_item.Statement.{statement}

@@ -1,5 +1,5 @@
 -- `lines::put_step` meets its contract. The writes in a row; the answer's number or both its values have one digit.
-use Prim.Native.Nat.{ℕ, _+_, _≤_}
+use Prim.Native.Nat.{_+_, _≤_}
 use mathlib.Core.Logic.{inl, inr}
 use mathlib.Core.List.{append-assoc}
 use Rattle.text.specs.Text.{fieldsOf, lineOf}

@@ -5,7 +5,6 @@ use mir.Syntax.{w64}
 use mir.ValLaws.{toZ-ofZ}
 use lib.Seq.{length-take-le}
 use Rattle.listing.proofs.Read.{cut-in, fine-lists, fine-short, refusal-lists, minus, minus-fits}
-use native.Mathlib.Omega.{arith}
 use borrow.Author.Needs.{needs}
 use Rattle.listing.proofs.pstore_list.Statement.{statement}
 use Rattle.listing.proofs.pstore_list.Tie as tie

@@ -59,8 +59,8 @@ returns c = ends (laid (c .before .before .before .before .before .before .befor
 step-by-requires : tie.Need-step-by-requires Inv-loop μ-loop
 step-by-requires c κs = omega (arith, whole-lies (sym (c .before .before .before .record-from .ensures) ∙ c .before .found .given .1))
 
-take-next-requires : tie.Need-take-next-requires Inv-loop μ-loop
-take-next-requires c κs = (_, (c .before .before .before .before .before .before .before .before .before .before .before .before .before .before .before .before .before .before .before .before .before .plan-of .ensures, c .before .before .before .before .before .before .before .before .before .before .loop .inv .runs))
+take-in-requires : tie.Need-take-in-requires Inv-loop μ-loop
+take-in-requires c κs = (_, (c .before .before .before .before .before .before .before .before .before .before .before .before .before .before .before .before .before .before .before .before .before .plan-of .ensures, c .before .before .before .before .before .before .before .before .before .before .loop .inv .runs))
 
 idle-after-requires : tie.Need-idle-after-requires Inv-loop μ-loop
 idle-after-requires c κs = search needs
@@ -75,7 +75,7 @@ loop-less : tie.Need-loop-less Inv-loop μ-loop
 loop-less c = omega (arith, whole-lies (sym (c .before .before .before .before .before .before .before .before .before .before .before .before .before .before .before .record-from .ensures) ∙ c .before .before .before .before .before .before .before .before .before .before .before .before .before .found .given .1))
 
 loop-again : tie.Need-loop-again Inv-loop μ-loop
-loop-again c = goes (c .before .before .before .before .before .before .before .before .before .before .before .before .before .before .before .before .loop .inv) (sym (c .before .before .before .before .before .before .before .before .before .before .before .before .before .before .before .record-from .ensures) ∙ c .before .before .before .before .before .before .before .before .before .before .before .before .before .found .given .1) (c .before .before .before .before .before .before .before .before .before .before .before .step-by .ensures) (c .before .before .before .before .before .take-next .ensures _ (c .before .before .before .before .before .before .before .before .before .before .before .before .before .before .before .before .before .before .before .before .before .before .before .before .before .before .before .plan-of .ensures, c .before .before .before .before .before .before .before .before .before .before .before .before .before .before .before .before .loop .inv .runs) (c .before .before .before .before .before .before .before .before .before .before .before .before .before .before .before .before .loop .inv .rests)) (c .before .before .before .before .idle-after .ensures) (c .before .before .put-step .ensures .0) (c .before .before .put-step .ensures .1)
+loop-again c = goes (c .before .before .before .before .before .before .before .before .before .before .before .before .before .before .before .before .loop .inv) (sym (c .before .before .before .before .before .before .before .before .before .before .before .before .before .before .before .record-from .ensures) ∙ c .before .before .before .before .before .before .before .before .before .before .before .before .before .found .given .1) (c .before .before .before .before .before .before .before .before .before .before .before .step-by .ensures) (c .before .before .before .before .before .take-in .ensures _ (c .before .before .before .before .before .before .before .before .before .before .before .before .before .before .before .before .before .before .before .before .before .before .before .before .before .before .before .plan-of .ensures, c .before .before .before .before .before .before .before .before .before .before .before .before .before .before .before .before .loop .inv .runs) (c .before .before .before .before .before .before .before .before .before .before .before .before .before .before .before .before .loop .inv .rests)) (c .before .before .before .before .idle-after .ensures) (c .before .before .put-step .ensures .0) (c .before .before .put-step .ensures .1)
 
 pub run-spec : {M : Type 1} → statement M
 run-spec =
@@ -94,7 +94,7 @@ run-spec =
     same-length
     returns
     step-by-requires
-    take-next-requires
+    take-in-requires
     idle-after-requires
     put-step-requires
     add-i

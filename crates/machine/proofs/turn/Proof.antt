@@ -7,7 +7,7 @@ use Rattle.search.specs.Known.{Knows}
 use Rattle.machine.specs.Settle.{partsOf, todo}
 use Rattle.machine.specs.Lent.{stateOf, Ready}
 use Rattle.machine.specs.declared.State.{State}
-use Rattle.machine.proofs.Loop.{carries, named-close, named-deliver, named-carry, turn-carries, turn-none}
+use Rattle.machine.proofs.Loop.{carries, named-carry, turn-carries, turn-none}
 use Rattle.machine.proofs.turn.Statement.{statement}
 use Rattle.machine.proofs.turn.Tie as tie
 
@@ -31,40 +31,31 @@ next-step-requires c κs =
 enum-known-todo : tie.Need-enum-known-todo
 enum-known-todo c = search needs
 
-wide-requires : tie.Need-wide-requires
-wide-requires c κs = search needs
-
-wide-requires-2 : tie.Need-wide-requires-2
-wide-requires-2 c κs = search needs
-
 close-next-requires : tie.Need-close-next-requires
 close-next-requires c κs =
-    let (T, h) = c .before .before .before .before .before .before .before .before .before .before .before .before .before .before .before .before .pre .0 in
-    ((T, (h .0, named-close (next (c .before .before .before .before .before .before .before .before .before .before) T h) (c .before .before .before .before .before .before .before .before .todo .given .1) (c .before .wide .ensures .0) (c .wide2 .ensures .0))), c .before .before .before .before .before .before .before .before .before .before .next-step .ensures .1 .0)
+    let (T, h) = c .before .before .before .before .before .before .before .before .before .before .before .before .before .before .pre .0 in
+    ((T, (h .0, next (c .before .before .before .before .before .before .before .before) T h ∙ c .before .before .before .before .before .before .todo .given .1)), c .before .before .before .before .before .before .before .before .next-step .ensures .1 .0)
 
 enum-known-todo-2 : tie.Need-enum-known-todo-2
 enum-known-todo-2 c = search needs
 
-wide-requires-3 : tie.Need-wide-requires-3
-wide-requires-3 c κs = search needs
-
 deliver-next-requires : tie.Need-deliver-next-requires
 deliver-next-requires c κs =
-    let (T, h) = c .before .before .before .before .before .before .before .before .before .before .before .before .before .before .before .pre .0 in
-    let e = named-deliver (next (c .before .before .before .before .before .before .before .before .before) T h) (c .before .before .before .before .before .before .before .todo2 .given .1) (c .wide3 .ensures .0) in
-    let d = sym (next (c .before .before .before .before .before .before .before .before .before) T h) ∙ e in
-    ((T, (h .0, (e, c .before .before .before .before .before .before .before .before .before .next-step .ensures .0 T (h .0 .0) (h .1) .1 .1 _ d .1))), (c .before .before .before .before .before .before .before .before .before .next-step .ensures .1 .0, c .before .before .before .before .before .before .before .before .before .next-step .ensures .1 .1 _ d))
+    let (T, h) = c .before .before .before .before .before .before .before .before .before .before .before .before .before .before .pre .0 in
+    let d = c .before .before .before .before .before .before .todo2 .given .1 in
+    let told = c .before .before .before .before .before .before .before .before .next-step .ensures in
+    ((T, (h .0, (next (c .before .before .before .before .before .before .before .before) T h ∙ d, told .0 T (h .0 .0) (h .1) .1 .1 _ d .1))), (told .1 .0, told .1 .1 _ d))
 
 enum-known-todo-3 : tie.Need-enum-known-todo-3
 enum-known-todo-3 c = search needs
 
-wide-requires-4 : tie.Need-wide-requires-4
-wide-requires-4 c κs = search needs
+wide-requires : tie.Need-wide-requires
+wide-requires c κs = search needs
 
 carry-on-requires : tie.Need-carry-on-requires
 carry-on-requires c κs =
     let (T, h) = c .before .before .before .before .before .before .before .before .before .before .before .before .before .before .before .pre .0 in
-    let k = carries (start (c .before .before .before .before .before .before .before .before .before .before .before .before .before .before .before) T) (h .0 .1) (named-carry (next (c .before .before .before .before .before .before .before .before .before) T h) (c .before .before .before .before .before .before .before .todo3 .given .1) (c .wide4 .ensures .0)) in
+    let k = carries (start (c .before .before .before .before .before .before .before .before .before .before .before .before .before .before .before) T) (h .0 .1) (named-carry (next (c .before .before .before .before .before .before .before .before .before) T h) (c .before .before .before .before .before .before .before .todo3 .given .1) (c .before .before .before .before .before .wide .ensures .0)) in
     ((h .0 .0 .laid, c .before .before .before .before .before .before .before .before .before .next-step .ensures .1 .0), omega (arith, k .txn, h .0 .0 .txns))
 
 enum-told : tie.Need-enum-told
@@ -72,25 +63,23 @@ enum-told c = search needs
 
 returns : tie.Need-returns
 returns c = (
-  λ T r k.
-      let e = named-close (next (c .before .before .before .before .before .before .before .before .before .before .before) T (r, k)) (c .before .before .before .before .before .before .before .before .before .todo .given .1) (c .before .before .wide .ensures .0) (c .before .wide2 .ensures .0) in
-      c .close-next .ensures .0 T r e (c .before .before .before .before .before .before .before .before .before .before .before .next-step .ensures .0 T (r .0) k .1 .0),
-  (c .close-next .ensures .1, c .before .before .before .before .before .before .before .before .before .before .before .before .before .before .before .before .before .pre .1 .1),
+  λ T r k. c .close-next .ensures .0 T r (next (c .before .before .before .before .before .before .before .before .before) T (r, k) ∙ c .before .before .before .before .before .before .before .todo .given .1) (c .before .before .before .before .before .before .before .before .before .next-step .ensures .0 T (r .0) k .1 .0),
+  (c .close-next .ensures .1, c .before .before .before .before .before .before .before .before .before .before .before .before .before .before .before .pre .1 .1),
 )
 
 returns-2 : tie.Need-returns-2
 returns-2 c = (
   λ T r k.
-      let e = named-deliver (next (c .before .before .before .before .before .before .before .before .before .before) T (r, k)) (c .before .before .before .before .before .before .before .before .todo2 .given .1) (c .before .wide3 .ensures .0) in
-      let told = c .before .before .before .before .before .before .before .before .before .before .next-step .ensures .0 T (r .0) k .1 in
-      c .deliver-next .ensures .0 T r e (told .1 _ (sym (next (c .before .before .before .before .before .before .before .before .before .before) T (r, k)) ∙ e) .1) (told .0),
-  (c .deliver-next .ensures .1, c .before .before .before .before .before .before .before .before .before .before .before .before .before .before .before .before .pre .1 .1),
+      let d = c .before .before .before .before .before .before .before .todo2 .given .1 in
+      let told = c .before .before .before .before .before .before .before .before .before .next-step .ensures .0 T (r .0) k .1 in
+      c .deliver-next .ensures .0 T r (next (c .before .before .before .before .before .before .before .before .before) T (r, k) ∙ d) (told .1 _ d .1) (told .0),
+  (c .deliver-next .ensures .1, c .before .before .before .before .before .before .before .before .before .before .before .before .before .before .before .pre .1 .1),
 )
 
 returns-3 : tie.Need-returns-3
 returns-3 c = (
   λ T r k.
-      let e = named-carry (next (c .before .before .before .before .before .before .before .before .before .before) T (r, k)) (c .before .before .before .before .before .before .before .before .todo3 .given .1) (c .before .wide4 .ensures .0) in
+      let e = named-carry (next (c .before .before .before .before .before .before .before .before .before .before) T (r, k)) (c .before .before .before .before .before .before .before .before .todo3 .given .1) (c .before .before .before .before .before .before .wide .ensures .0) in
       let g = c .carry-on .ensures .0 T _ _ (r .0) (c .before .before .before .before .before .before .before .before .before .before .next-step .ensures .0 T (r .0) k .1 .0) e in
       turn-carries (start (c .before .before .before .before .before .before .before .before .before .before .before .before .before .before .before .before) T) (r .1) _ _ _ _ (g .1 .1 (c .before .before .before .before .before .before .before .before .before .before .before .before .before .before .before .before .pre .1 .1)) (g .0) (g .1 .0),
   c .carry-on .ensures .1,
@@ -108,14 +97,11 @@ turn-spec =
     (tie.spec
     next-step-requires
     enum-known-todo
-    wide-requires
-    wide-requires-2
     close-next-requires
     enum-known-todo-2
-    wide-requires-3
     deliver-next-requires
     enum-known-todo-3
-    wide-requires-4
+    wide-requires
     carry-on-requires
     enum-told
     returns

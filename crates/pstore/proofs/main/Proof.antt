@@ -1,7 +1,6 @@
 -- `pstore::main` meets its contract. What was printed is at most 774,912 bytes, which is the room that `space` makes.
 use mathlib.Core.Path.{sym}
 use lib.Seq.{length-take-le}
-use native.Mathlib.Omega.{arith}
 use borrow.Author.Needs.{needs}
 use Rattle.pstore.proofs.main.Statement.{statement}
 use Rattle.pstore.proofs.main.Tie as tie

@@ -52,7 +52,7 @@ put-requires c κs = omega (arith, site (c .before .before .before))
 
 -- the first position that waits
 ranged-1 : (c : tie.After-put) → Ranged (c .put .last .0)
-ranged-1 c = subst (λ l. Ranged l) (sym (c .put .ensures .0)) (ranged-set _ _ _ (c .before .before .before .before .pre .0 .1) (inl (c .before .before .next-from .ensures .1)))
+ranged-1 c = subst (λ l. Ranged l) (sym (c .put .ensures .0)) (ranged-set _ _ _ (c .before .before .before .before .pre .0 .1) (inl (c .before .before .next-from .ensures .1 .0)))
 
 waiting : (c : tie.After-put) (T : Tables) (w : Parts) → Lent (c .before .before .before .before) T w
     → ((i : ℕ) → nextAt (c .before .before .before .before .args .known .now) (c .before .before .before .before .args .s) ≤ i → i < c .before .before .next-from .result → waitsAt T (w .places) (w .delivered) (c .before .before .before .before .args .order .now) (c .before .before .before .before .args .s) i ≡ false)
@@ -121,7 +121,7 @@ put-requires-3 c κs = omega (arith, site (c .before .before .before .before .be
 
 -- the last
 top : (c : tie.After-last-to) → c .last-to .result ≤ 128
-top c = omega (arith, c .last-to .ensures .1, ranged-2 (c .before .before) .top (c .before .before .before .before .before .before .before .before .before .before .before .before .args .s) (site (c .before .before .before .before .before .before .before .before .before .before .before .before)))
+top c = omega (arith, c .last-to .ensures .1 .0, ranged-2 (c .before .before) .top (c .before .before .before .before .before .before .before .before .before .before .before .before .args .s) (site (c .before .before .before .before .before .before .before .before .before .before .before .before)))
 
 ranged-3 : (c : tie.After-put3) → Ranged (c .put3 .last .0)
 ranged-3 c = subst (λ l. Ranged l) (sym (c .put3 .ensures .0)) (ranged-set _ _ _ (ranged-2 (c .before .before .before .before)) (inl (top (c .before .before))))

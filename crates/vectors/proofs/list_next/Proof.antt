@@ -6,13 +6,6 @@ use native.Mathlib.Omega.{arith}
 use borrow.Author.Needs.{needs}
 use Rattle.vectors.proofs.list_next.Statement.{statement}
 use Rattle.vectors.proofs.list_next.Tie as tie
-use Rattle.vectors.proofs.list_next.Reads as reads
-use Rattle.vectors.proofs.list_next.Lts as lts
-use Rattle.io.proofs.read_full.Reads as read-full-reads
-use Rattle.io.proofs.write_all.Reads as write-all-reads
-use Rattle.listing.proofs.print.Reads as print-reads
-use Rattle.vectors.proofs.file_space.Reads as file-space-reads
-use Rattle.vectors.proofs.space.Reads as space-reads
 
 file-space-requires : tie.Need-file-space-requires
 file-space-requires c κs = search needs

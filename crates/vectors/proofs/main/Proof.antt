@@ -1,14 +1,8 @@
 -- `vectors::main` meets its contract. A length in two bytes is at most 65,535.
 use Prim.Native.Nat.{_≤_, _-_}
-use native.Mathlib.Omega.{arith}
 use borrow.Author.Needs.{needs}
 use Rattle.vectors.proofs.main.Statement.{statement}
 use Rattle.vectors.proofs.main.Tie as tie
-use Rattle.vectors.proofs.main.Reads as reads
-use Rattle.vectors.proofs.main.Lts as lts
-use Rattle.io.proofs.read_full.Reads as read-full-reads
-use Rattle.tables.proofs.wide.Reads as wide-reads
-use Rattle.vectors.proofs.list_next.Reads as list-next-reads
 
 abbrev Inv-loop : tie.InvT-loop
 Inv-loop count₀ count = count ≤ 10000

@@ -1,6 +1,7 @@
 -- `State::take` meets its contract. The arrays hold the state, and what `take_in` leaves in them is the state after the step.
-use mathlib.Core.Path.{_≡_, subst, _∙_}
+use mathlib.Core.Path.{_≡_, refl, subst, _∙_}
 use native.Mathlib.Omega.{arith}
+use Rattle.bounded.proofs.Truth.{clash}
 use Rattle.machine.specs.Lent.{stateOf, Ready, Takes}
 use Rattle.machine.specs.declared.State.{State}
 use Rattle.machine.proofs.Laws.{usable-has, usable-fits}
@@ -36,7 +37,7 @@ state-of-requires : tie.Need-state-of-requires
 state-of-requires c κs = search needs
 
 returns : tie.Need-returns
-returns c = let e = c .before .before .before .before .take-in .ensures (c .before .before .before .before .before .before .before .before .before .before .before .before .before .before .before .before .before .before .before .before .before .before .args .t1 .tables) (ready (c .before .before .before .before .before)) in stepped (c .before .before .before .before .before .before .before .before .before .before .before .before .before .before .before .before .before .before .before .before .before .before .args .t1) (c .before .before .before .before .before .before .before .before .before .before .before .before .before .before .before .before .before .before .before .before .before .before .args .x) (c .before .before .before .before .take-in .result) (c .state-of .result) (subst (λ (st : State). Takes st (c .before .before .before .before .before .before .before .before .before .before .before .before .before .before .before .before .before .before .before .before .before .before .args .x) (c .before .before .before .before .take-in .result) (c .state-of .result)) (whole (c .before .before .before .before .before)) (e .0, c .state-of .ensures ∙ e .1))
+returns c = let e = c .before .before .before .before .take-in .ensures (c .before .before .before .before .before .before .before .before .before .before .before .before .before .before .before .before .before .before .before .before .before .before .args .t1 .tables) (ready (c .before .before .before .before .before)) (λ h. clash h refl) in stepped (c .before .before .before .before .before .before .before .before .before .before .before .before .before .before .before .before .before .before .before .before .before .before .args .t1) (c .before .before .before .before .before .before .before .before .before .before .before .before .before .before .before .before .before .before .before .before .before .before .args .x) (c .before .before .before .before .take-in .result) (c .state-of .result) (subst (λ (st : State). Takes st (c .before .before .before .before .before .before .before .before .before .before .before .before .before .before .before .before .before .before .before .before .before .before .args .x) (c .before .before .before .before .take-in .result) (c .state-of .result)) (whole (c .before .before .before .before .before)) (e .0, c .state-of .ensures ∙ e .1))
 
 pub take-spec : {M : Type 1} → statement M
 take-spec =
