@@ -20,7 +20,7 @@ use Rattle.machine.specs.Effects.{carryDone}
 use Rattle.machine.specs.declared.State.{State}
 use Rattle.onecopy.specs.View.{View}
 use Rattle.onecopy.proofs.Base.{at2, look2, at3, at3-same, at3-other}
-use Rattle.search.proofs.Frames.{Carries, carry-has}
+use Rattle.refusals.proofs.Passed.{Carries, carry-has}
 use Rattle.onecopy.proofs.Deliver.{carryV}
 use Rattle.onecopy.proofs.Rules as Rules
 use Rattle.onecopy.proofs.Ordering.{counter}

@@ -28,7 +28,7 @@ use Rattle.machine.specs.Usable.{usable}
 use Rattle.machine.specs.Refusals.{closeRefusal}
 use Rattle.machine.specs.Effects.{stored, committed, closeDone}
 use Rattle.machine.specs.declared.State.{State}
-use Rattle.search.proofs.Frames.{close-has}
+use Rattle.search.proofs.Closes.{close-has}
 use Rattle.machine.specs.Settle.{partsOf}
 use Rattle.machine.proofs.Stores.{stored-other}
 use Rattle.machine.proofs.Laws.{row-apart}
@@ -143,6 +143,21 @@ module _ (st : State) (g : Taken (st .tables)) (z : Arrays st) (t s c : ℕ) (tx
   shut : (a b : ℕ) → viewOf T (withClosed st t s c) .closed a b ≡ at2 (v .closed) s t c a b
   shut a b = cell-put 16 0 (st .closed) t s c near (omega (arith, z .closed, g .txns, txn, near)) a b
 
+  -- where the stores are f
+  stored-view : (f : ℕ → ℕ → ℕ × ℕ) → ((a k : ℕ) → f a k ≡ closeV (tableOf T) v s t c .store a k)
+      → record { order = v .order; seen = v .seen; recorded = v .recorded; delivered = v .delivered; closed = viewOf T (withClosed st t s c) .closed; cast = v .cast; held = v .held; store = f } ≡ closeV (tableOf T) v s t c
+  unfolding closeV
+  stored-view f e = λ j. record {
+    order = v .order;
+    seen = v .seen;
+    recorded = v .recorded;
+    delivered = v .delivered;
+    closed = fun-ext (λ a. fun-ext (λ b. shut a b)) j;
+    cast = v .cast;
+    held = v .held;
+    store = fun-ext (λ a. fun-ext (λ k. e a k)) j;
+  }
+
   -- a state whose stores alone differ
   pub view-close : viewOf T (withClosed (cond (eqb c 1) (committed st t s) st) t s c) ≡ closeV (tableOf T) v s t c
   unfolding committed closeV
@@ -153,26 +168,8 @@ module _ (st : State) (g : Taken (st .tables)) (z : Arrays st) (t s c : ℕ) (tx
       off false w y z = refl
 
       by : (b : Bool) → eqb c 1 ≡ b → viewOf T (withClosed (cond b (committed st t s) st) t s c) ≡ closeV (tableOf T) v s t c
-      by true e = unfold committed closeV in λ j. record {
-        order = v .order;
-        seen = v .seen;
-        recorded = v .recorded;
-        delivered = v .delivered;
-        closed = fun-ext (λ a. fun-ext (λ b. shut a b)) j;
-        cast = v .cast;
-        held = v .held;
-        store = fun-ext (λ a. fun-ext (λ k. store (eqb-true c 1 e) a k)) j;
-      }
-      by false e = unfold closeV in λ j. record {
-        order = v .order;
-        seen = v .seen;
-        recorded = v .recorded;
-        delivered = v .delivered;
-        closed = fun-ext (λ a. fun-ext (λ b. shut a b)) j;
-        cast = v .cast;
-        held = v .held;
-        store = fun-ext (λ a. fun-ext (λ k. let q : v .store a k ≡ closeV (tableOf T) v s t c .store a k = unfold closeV in rw e (off (eqb a s) (tableOf T .writes t k && holds T s k) (v .store a k) (tableOf T .gives t k)) in q)) j;
-      }
+      by true e = unfold committed in stored-view (viewOf T (committed st t s) .store) (store (eqb-true c 1 e))
+      by false e = stored-view (v .store) (λ a k. unfold closeV in rw e (off (eqb a s) (tableOf T .writes t k && holds T s k) (v .store a k) (tableOf T .gives t k)))
 
 pub close-step : (st : State) (t s : ℕ) → Taken (st .tables) → Arrays st → Sound st → closeRefusal st t s ≡ 0
     → Ends (planOf (st .tables)) (worldOf (st .tables) st) (worldOf (st .tables) (closeDone st t s .next))

@@ -25,7 +25,7 @@ use Rattle.onecopy.proofs.Base.{at2, look2}
 use Rattle.demands.proofs.Tables.{Taken}
 use Rattle.demands.proofs.Cells.{cell, cell-in, cell-put, cell-same}
 use Rattle.demands.proofs.Sized.{Arrays}
-use Rattle.search.proofs.Frames.{Carries, carry-has}
+use Rattle.refusals.proofs.Passed.{Carries, carry-has}
 use Rattle.demands.proofs.Carry.{near}
 
 -- the vote of f on t was carried to a

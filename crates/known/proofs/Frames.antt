@@ -25,7 +25,7 @@ use Rattle.steps.specs.declared.Version.{Version}
 use Rattle.rules.specs.Asked.{verdictAt, roomOf}
 use Rattle.refusals.specs.Refusals.{deliverRefusalIn, voteRefusalIn, carryRefusalIn, verdictRefusalIn, closeRefusalIn}
 use Rattle.search.specs.Search.{Parts, parts, closing}
-use Rattle.search.proofs.Frames.{Closes, close-has}
+use Rattle.search.proofs.Closes.{Closes, close-has}
 
 -- a store at one transaction and site leaves every other
 pub cell-other : {A : Type 0} (d : A) (l : List A) (t s u r : ℕ) (v : A) → s < 16 → r < 16 → (u ≡ t → r ≡ s → ⊥) → cell d (set l (t * 16 + s) v) u r ≡ cell d l u r

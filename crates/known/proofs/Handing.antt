@@ -30,7 +30,8 @@ use Rattle.search.specs.Search.{Parts, closing, nowhere, closesFirstIn, firstCl
 use Rattle.search.specs.Known.{any, PassedTo, firstPair, codesIn, passedIn, lowAt, topAt, openAt, Knows}
 use Rattle.known.specs.After.{carriedParts, Carried}
 use Rattle.search.specs.declared.Todo.the-variants.{Carry}
-use Rattle.search.proofs.Frames.{close-has, Carries, carry-has}
+use Rattle.refusals.proofs.Passed.{Carries, carry-has}
+use Rattle.search.proofs.Closes.{close-has}
 use Rattle.known.proofs.Frames.{cell-other, close-back, verdict-same, carry-same}
 use Rattle.search.proofs.Pair.{pair-stop, pair-none, pair-up, pair-to, pair-from}
 use Rattle.search.proofs.Accepted.{Hands, next-says, nothing-closes}

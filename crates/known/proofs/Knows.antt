@@ -33,7 +33,8 @@ use Rattle.search.specs.Search.{Parts, closing, todoIn}
 use Rattle.search.specs.Known.{any, excludes, KnowsClosing, KnowsAt, codesIn, lowAt, topAt, openAt, Knows}
 use Rattle.known.specs.After.{shared, joined, closedParts, deliveredParts}
 use Rattle.search.specs.declared.Todo.the-variants.{Close, Deliver}
-use Rattle.search.proofs.Frames.{close-has, deliver-site, carry-has}
+use Rattle.refusals.proofs.Passed.{deliver-has, carry-has}
+use Rattle.search.proofs.Closes.{close-has}
 use Rattle.known.proofs.Frames.{cell-other, close-put, verdict-same, room-same, close-back, deliver-same, carry-same}
 use Rattle.search.proofs.Accepted.{next-says}
 use Rattle.search.proofs.Tried.{excludes-none}
@@ -175,7 +176,7 @@ module _ (T : Tables) (fits : Fits T) (w : Parts) (versions : List Version) (t s
 
       delivers : (r : ℕ) → (r ≡ s → ⊥) → deliverRefusalIn T (w .places) (w .delivered) (w′ .closed) r ≡ 0 → deliverRefusalIn T (w .places) (w .delivered) (w .closed) r ≡ 0
       delivers r d z =
-          let b : r < 16 = omega (arith, deliver-site T (w .places) (w .delivered) (w′ .closed) r z, fits .sites) in
+          let b : r < 16 = omega (arith, deliver-has T (w .places) (w .delivered) (w′ .closed) r fits z .0, fits .sites) in
           sym (deliver-same T (w .places) (w .delivered) (w .delivered) (w .closed) (w′ .closed) r (λ u m. refl) (λ u m. same-closed u r b (λ _ e. d e))) ∙ z
 
 -- ---- after DELIVER
@@ -298,7 +299,7 @@ module _ (T : Tables) (fits : Fits T) (w : Parts) (t s v : ℕ) (next : todoIn T
 
       delivers : (r : ℕ) → (r ≡ s → ⊥) → deliverRefusalIn T (w .places) (w′ .delivered) (w .closed) r ≡ 0 → deliverRefusalIn T (w .places) (w .delivered) (w .closed) r ≡ 0
       delivers r d z =
-          let b : r < 16 = omega (arith, deliver-site T (w .places) (w′ .delivered) (w .closed) r z, fits .sites) in
+          let b : r < 16 = omega (arith, deliver-has T (w .places) (w′ .delivered) (w .closed) r fits z .0, fits .sites) in
           sym (deliver-same T (w .places) (w .delivered) (w′ .delivered) (w .closed) (w .closed) r (λ u m. other false (w .delivered) true u r b (λ _ e. d e)) (λ u m. refl)) ∙ z
 
       carries : (u f r : ℕ) → (u ≡ t → ⊥) → carryRefusalIn T (w′ .cast) (w .carried) u f r ≡ 0 → carryRefusalIn T (w .cast) (w .carried) u f r ≡ 0

@@ -26,12 +26,13 @@ use Rattle.machine.specs.Effects.{deliverDone, carryDone, committed, clo
 use Rattle.machine.specs.Refusals.{deliverRefusal, carryRefusal, closeRefusal}
 use Rattle.machine.specs.Settle.{partsOf, todo, after, most, settleFor, settleDone}
 use Rattle.machine.specs.declared.State.{State}
-use Rattle.search.proofs.Frames.{close-has, carry-has}
+use Rattle.refusals.proofs.Passed.{deliver-has, carry-has}
+use Rattle.search.proofs.Closes.{close-has}
 use Rattle.search.proofs.Accepted.{next-says, nothing-closes, nothing-delivers, nothing-carries}
 use Rattle.search.specs.declared.Todo.{Todo}
 use Rattle.search.specs.declared.Todo.the-variants.{Close, Deliver, Carry, Nothing}
 use Rattle.machine.proofs.Laws.{usable-has, usable-fits}
-use Rattle.machine.proofs.Settle.{Accepted, deliver-has, todo-accepted, after-usable, settle-stops, settle-goes, settle-ends}
+use Rattle.machine.proofs.Settle.{Accepted, todo-accepted, after-usable, settle-stops, settle-goes, settle-ends}
 
 -- the arrays are as long as they are declared
 pub record Sized (st : State) : Type 0 where
@@ -120,7 +121,7 @@ left-less : (st : State) (x : Todo) → Sized st → usable st ≡ true → Acce
 unfolding left deliverDone carryDone closeDone committed
 left-less st (Deliver s) z h a d =
     let u = usable-has st h in
-    let (q, l) = deliver-has st s h a in
+    let (q, l) = deliver-has (st .tables) (st .places) (st .delivered) (st .closed) s (usable-fits st h) a in
     omega (arith, delivered-less (st .delivered) (nextAt st s * 16 + s) (z .delivered) (omega (arith, u .txns, u .sites)) (next-waits st s (u .txns) l))
 left-less st (Close t s) z h a d =
     let u = usable-has st h in

@@ -2,27 +2,24 @@
 -- Assumes nothing.
 use Prim.Native.Nat.{ℕ, _+_, _*_, _<_}
 use mathlib.Core.Path.{_≡_, refl}
-use mathlib.Core.Bool.{Bool, true, false, not, cond}
+use mathlib.Core.Bool.{Bool, true, false, cond}
 use mathlib.Core.Logic.{inl, inr}
 use mathlib.Core.List.{List}
 use native.Mathlib.Omega.{arith}
-use lib.Dec.{leb, eqb}
+use lib.Dec.{eqb}
 use lib.ListN.{length, getD, set, length-set}
-use borrow.Author.Tests.{leb-false, eqb-false, ne-eqb, not-false}
-use Rattle.queues.specs.Queue.{submittedIn, nextOf}
-use Rattle.bounded.proofs.Truth.{passed}
+use borrow.Author.Tests.{ne-eqb}
+use Rattle.queues.specs.Queue.{submittedIn}
 use Rattle.keys.specs.Keys.{member, adding}
 use Rattle.steps.specs.Kinds.{version, place}
-use Rattle.tables.specs.Lists.{readCount, readKey}
-use Rattle.tables.specs.Sites.{siteCount, holds}
+use Rattle.tables.specs.Lists.{readKey}
 use Rattle.tables.specs.Fits.{Fits}
 use Rattle.tables.specs.declared.Tables.{Tables}
 use Rattle.layout.specs.Layout.{portion, theVersions, theValues, theReadVersions, theReadValues, thePlaces, theRecorded, theDelivered, theClosed, theCast}
 use Rattle.layout.proofs.Laws.{portion-at, portion-set, portion-other}
-use Rattle.layout.specs.Cells.{nobody}
 use Rattle.layout.proofs.Cells.{version-at, cast-at}
-use Rattle.refusals.specs.Refusals.{readRefusalIn, submitRefusalIn, deliverRefusalIn, refusalIn}
-use Rattle.refusals.proofs.Next.{next-low}
+use Rattle.refusals.specs.Refusals.{refusalIn}
+use Rattle.refusals.proofs.Passed.{Reads, carry-has}
 use Rattle.machine.specs.Parts.{withRead, withPlace, withDelivery, withCarried, withClosed}
 use Rattle.machine.specs.Rules.{nextAt, voteOf}
 use Rattle.machine.specs.Refusals.{readRefusal, submitRefusal, deliverRefusal, carryRefusal, refusal}
@@ -32,12 +29,10 @@ use Rattle.machine.specs.Steps.{done, decided}
 use Rattle.machine.specs.Lent.{stateOf, Takes}
 use Rattle.machine.specs.declared.State.{State}
 use Rattle.machine.specs.declared.Stepped.{Stepped}
-use Rattle.steps.specs.declared.Place.{Place}
 use Rattle.steps.specs.declared.Answer.{Answer}
 use Rattle.steps.specs.declared.Answer.the-variants as answer
 use Rattle.steps.specs.declared.Step.{Step}
 use Rattle.steps.specs.declared.Step.the-variants.{Read, Submit, Deliver, Carry, Settle}
-use Rattle.search.proofs.Frames.{carry-has}
 use Rattle.machine.proofs.Settle.{taken}
 
 -- ---- a step refused or accepted
@@ -63,46 +58,6 @@ delivers st s t v next z e q h = accepts st (Deliver s) z (answer.Delivered t v)
 -- an answer and the state after it, as one
 pub stepped : (st : State) (x : Step) (a : Answer) (next : State) → Takes st x a next → _≡_ {A = Stepped} (record { answer = a; next = next }) (decided st x)
 stepped st x a next h = rw (h .0, h .1)
-
--- ---- what is known where READ, SUBMIT and DELIVER are accepted
-
-pub record Reads (T : Tables) (t i s : ℕ) : Type 0 where
-  pub txn : t < T .txns
-  pub row : t < 128
-  pub count : i < readCount T t
-  pub read : i < 8
-  pub site : s < 16
-  pub held : holds T s (readKey T t i) ≡ true
-
-pub reads-has : (T : Tables) (recorded : List Bool) (t i s : ℕ) → Fits T → readRefusalIn T recorded t i s ≡ 0 → Reads T t i s
-unfolding readRefusalIn
-reads-has T recorded t i s f h =
-    let (a, h1) = passed 20 (omega arith) (leb (T .txns) t) _ h in
-    let (b, h2) = passed 22 (omega arith) (leb (readCount T t) i) _ h1 in
-    let (d, h3) = passed 21 (omega arith) (leb (siteCount T) s) _ h2 in
-    let (e, h4) = passed 23 (omega arith) (not (holds T s (readKey T t i))) _ h3 in
-    made (leb-false _ _ a) (leb-false _ _ b) (leb-false _ _ d) (not-false _ e)
-  where
-    made : t < T .txns → i < readCount T t → s < siteCount T → holds T s (readKey T t i) ≡ true → Reads T t i s
-    made a b d e = record {
-      txn = a;
-      row = omega (arith, f .txns);
-      count = b;
-      read = omega (arith, f .short t a .0);
-      site = omega (arith, f .sites);
-      held = e;
-    }
-
-pub submits-has : (T : Tables) (places : List Place) (recorded : List Bool) (t : ℕ) → Fits T → submitRefusalIn T places recorded t ≡ 0 → t < 128
-unfolding submitRefusalIn
-submits-has T places recorded t f h = let l = leb-false (T .txns) t (passed 20 (omega arith) (leb (T .txns) t) _ h .0) in omega (arith, f .txns)
-
-pub delivers-has : (T : Tables) (places : List Place) (delivered : List Bool) (closed : List ℕ) (s : ℕ) → Fits T → deliverRefusalIn T places delivered closed s ≡ 0
-    → (s < siteCount T) × (nextOf T places delivered s < T .txns)
-unfolding deliverRefusalIn
-delivers-has T places delivered closed s f h =
-    let (a, h1) = passed 21 (omega arith) (leb (siteCount T) s) _ h in
-    (leb-false _ _ a, next-low T places delivered s (f .txns) (eqb-false _ _ (passed 26 (omega arith) (eqb (nextOf T places delivered s) nobody) _ h1 .0)))
 
 -- ---- a store
 

@@ -16,7 +16,8 @@ use Rattle.steps.specs.declared.Answer.the-variants as answer
 use Rattle.search.specs.Search.{Parts}
 use Rattle.search.specs.Known.{Knows}
 use Rattle.known.specs.After.{Closed, Carried, closedParts, deliveredParts, carriedParts}
-use Rattle.search.proofs.Frames.{Closes, close-has, Carries, carry-has}
+use Rattle.refusals.proofs.Passed.{deliver-has, Carries, carry-has}
+use Rattle.search.proofs.Closes.{Closes, close-has}
 use Rattle.search.specs.declared.Todo.{Todo}
 use Rattle.search.specs.declared.Todo.the-variants.{Close, Deliver, Carry, Nothing}
 use Rattle.machine.specs.Parts.{withQueues, withClosed, withDelivery}
@@ -28,7 +29,7 @@ use Rattle.machine.specs.Lent.{Turned}
 use Rattle.machine.specs.declared.State.{State}
 use Rattle.machine.specs.declared.Stepped.{Stepped}
 use Rattle.machine.proofs.Laws.{usable-has, usable-fits}
-use Rattle.machine.proofs.Settle.{Accepted, todo-accepted, deliver-has, after-usable, settle-stops, settle-goes, settle-ends}
+use Rattle.machine.proofs.Settle.{Accepted, todo-accepted, after-usable, settle-stops, settle-goes, settle-ends}
 use Rattle.machine.proofs.Stores.{stored-other}
 
 -- ---- what the next step says of its sites and its transaction
@@ -42,7 +43,7 @@ module _ (st : State) (ok : usable st ≡ true) where
   closes {t} {s} e = close-has (st .tables) (partsOf st) t s (accepted e)
 
   pub delivers : {s : ℕ} → todo st ≡ Deliver s → (s < siteCount (st .tables)) × (nextAt st s < st .tables .txns)
-  delivers {s} e = deliver-has st s ok (accepted e)
+  delivers {s} e = deliver-has (st .tables) (st .places) (st .delivered) (st .closed) s (usable-fits st ok) (accepted e)
 
   pub carries : {t from to : ℕ} → todo st ≡ Carry t from to → Carries (st .tables) (st .cast) (st .carried) t from to
   carries {t} {from} {to} e = carry-has (st .tables) (st .cast) (st .carried) t from to (accepted e)

@@ -3,18 +3,11 @@
 use Prim.Native.Nat.{ℕ, zero, suc, _+_, _-_, _<_}
 use mathlib.Core.Path.{_≡_, refl}
 use mathlib.Core.Bool.{Bool, true, false, cond}
-use native.Mathlib.Omega.{arith}
 use native.Mathlib.Numerals.{sub-one}
 use native.Mathlib.Nat.{not-suc-le-zero}
-use lib.Dec.{eqb, leb}
-use borrow.Author.Tests.{leb-false, eqb-false}
-use Rattle.layout.specs.Cells.{nobody}
-use Rattle.refusals.specs.Refusals.{deliverRefusalIn}
-use Rattle.refusals.proofs.Next.{next-low}
-use Rattle.bounded.proofs.Truth.{passed}
-use Rattle.tables.specs.Sites.{siteCount}
+use lib.Dec.{eqb}
 use Rattle.machine.specs.Parts.{withClosed}
-use Rattle.machine.specs.Rules.{nextAt, verdict}
+use Rattle.machine.specs.Rules.{verdict}
 use Rattle.machine.specs.Usable.{usable}
 use Rattle.machine.specs.Refusals.{deliverRefusal, carryRefusal, closeRefusal, refusal}
 use Rattle.machine.specs.Effects.{giving, deliverDone, carryDone, committed, closeDone}
@@ -26,7 +19,7 @@ use Rattle.search.specs.declared.Todo.{Todo}
 use Rattle.search.specs.declared.Todo.the-variants.{Close, Deliver, Carry, Nothing}
 use Rattle.steps.specs.declared.Step.{Step}
 use Rattle.steps.specs.declared.Answer.the-variants as answer
-use Rattle.machine.proofs.Laws.{usable-has, usable-fits}
+use Rattle.machine.proofs.Laws.{usable-fits}
 
 -- what SETTLE takes next is accepted
 abbrev pub Accepted : State → Todo → Type 0
@@ -43,14 +36,6 @@ todo-accepted st h = by (todo st) (next-says (st .tables) (partsOf st) (usable-f
     by (Deliver s) z = z .1
     by (Carry t from to) z = z .accepted
     by Nothing z = tt
-
--- DELIVER accepted: s is a site, and what it delivers a transaction
-pub deliver-has : (st : State) (s : ℕ) → usable st ≡ true → deliverRefusal st s ≡ 0
-    → (s < siteCount (st .tables)) × (nextAt st s < st .tables .txns)
-unfolding deliverRefusalIn
-deliver-has st s u h =
-    let (a, h1) = passed 21 (omega arith) (leb (siteCount (st .tables)) s) _ h in
-    (leb-false _ _ a, next-low (st .tables) (st .places) (st .delivered) s (usable-has st u .txns) (eqb-false _ _ (passed 26 (omega arith) (eqb (nextAt st s) nobody) _ h1 .0)))
 
 -- a step of SETTLE leaves a usable state usable
 pub after-usable : (st : State) (x : Todo) → usable st ≡ true → usable (after st x) ≡ true

@@ -34,7 +34,7 @@ use Rattle.machine.specs.Lent.{stateOf, Ready, Takes}
 use Rattle.machine.specs.declared.State.{State}
 use Rattle.machine.specs.Settle.{partsOf}
 use Rattle.machine.specs.Steps.{done}
-use Rattle.search.proofs.Frames.{close-has}
+use Rattle.search.proofs.Closes.{close-has}
 use Rattle.machine.proofs.Laws.{usable-has, row-apart}
 use Rattle.machine.proofs.Lent.{accepts, put-at, closed-lent}
 

@@ -18,7 +18,8 @@ use Rattle.search.specs.Search.{Parts, closing, nowhere, closesFirstIn, 
 use Rattle.search.specs.Known.{firstPair}
 use Rattle.search.specs.declared.Todo.{Todo}
 use Rattle.search.specs.declared.Todo.the-variants.{Close, Deliver, Carry, Nothing}
-use Rattle.search.proofs.Frames.{close-has, deliver-site, carry-has}
+use Rattle.refusals.proofs.Passed.{deliver-has, carry-has}
+use Rattle.search.proofs.Closes.{close-has}
 use Rattle.search.proofs.Tried.{none-closes}
 use Rattle.search.proofs.Pair.{pair-found, pair-carries, pair-from, pair-to, carried-pair}
 
@@ -107,7 +108,7 @@ module _ (T : Tables) (w : Parts) (fits : Fits T) where
   unfolding firstDeliveringIn
   nothing-delivers h s z =
       first-lacks (siteCount T) (λ i. 0) (λ s. eqb (deliverRefusalIn T (w .places) (w .delivered) (w .closed) s) 0) nowhere (fits .sites) h s
-      (deliver-site T (w .places) (w .delivered) (w .closed) s z) (eq-eqb _ _ z)
+      (deliver-has T (w .places) (w .delivered) (w .closed) s fits z .0) (eq-eqb _ _ z)
 
   pub nothing-carries : nobody ≤ firstCarriedIn T (w .places) (w .cast) (w .carried) → (t from to : ℕ) → carryRefusalIn T (w .cast) (w .carried) t from to ≡ 0 → ⊥
   unfolding firstCarriedIn

@@ -27,7 +27,7 @@ use Rattle.search.specs.Search.{Parts, nowhere, firstFromIn, firstCarrie
 use Rattle.search.specs.declared.Todo.{Todo}
 use Rattle.search.specs.declared.Todo.the-variants.{Close, Deliver, Carry, Nothing}
 use Rattle.search.specs.Known.{PassedTo, firstPair, passedIn, nextAt, lowAt, topAt, openAt, Knows}
-use Rattle.search.proofs.Frames.{Carries, carry-has}
+use Rattle.refusals.proofs.Passed.{Carries, carry-has}
 use Rattle.search.proofs.Pair.{pair-passed, pair-none, pair-from, from-pair}
 use Rattle.search.proofs.Entries.{passed-is, put-same, put-other}
 use Rattle.search.proofs.Stored.{knows-next, knows-moved, knows-top, knows-passed, knows-open}

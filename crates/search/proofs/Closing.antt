@@ -28,7 +28,7 @@ use Rattle.rules.specs.Asked.{verdictAt, roomOf}
 use Rattle.refusals.specs.Refusals.{verdictRefusalIn, closeRefusalIn}
 use Rattle.search.specs.Search.{Parts, closing, nowhere, closesFirstIn, firstClosingIn}
 use Rattle.search.specs.Known.{any, KnowsAt, Knows}
-use Rattle.search.proofs.Frames.{close-has}
+use Rattle.search.proofs.Closes.{close-has}
 use Rattle.search.proofs.Tried.{code-shut, none-closes}
 use Rattle.search.proofs.Stored.{knows-code}
 

@@ -1,4 +1,4 @@
-pub mod Frames
+pub mod Closes
 pub mod Pair
 pub mod Tried
 pub mod Accepted

@@ -20,7 +20,7 @@ use Rattle.tables.specs.Fits.{Fits}
 use Rattle.refusals.specs.Refusals.{carryRefusalIn}
 use Rattle.search.specs.Search.{nowhere, firstToIn, firstFromIn, firstCarriedIn}
 use Rattle.search.specs.Known.{PassedTo, firstPair}
-use Rattle.search.proofs.Frames.{carry-has}
+use Rattle.refusals.proofs.Passed.{carry-has}
 
 module _ (T : Tables) (cast carried : List ℕ) (t : ℕ) where
   -- of the pairs in order

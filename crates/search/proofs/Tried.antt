@@ -14,7 +14,7 @@ use Rattle.tables.specs.declared.Tables.{Tables}
 use Rattle.tables.specs.Fits.{Fits}
 use Rattle.search.specs.Search.{Parts, closing, closesFirstIn}
 use Rattle.search.specs.Known.{any, excludes, KnowsAt}
-use Rattle.search.proofs.Frames.{close-has}
+use Rattle.search.proofs.Closes.{close-has}
 
 -- any excludes none
 pub excludes-none : (c u : ℕ) → c ≡ any → excludes c u ≡ true → ⊥

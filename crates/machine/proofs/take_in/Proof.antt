@@ -5,12 +5,12 @@ use borrow.Author.Needs.{needs}
 use Rattle.tables.specs.declared.Tables.{Tables}
 use Rattle.plan.specs.Plan.{Plan}
 use Rattle.layout.specs.Layout.{theCast}
-use Rattle.search.proofs.Frames.{carry-has}
+use Rattle.refusals.proofs.Passed.{read-has, submit-has, deliver-has, carry-has}
 use Rattle.refusals.specs.Refusals.{refusalIn}
 use Rattle.machine.specs.Refusals.{refusal}
 use Rattle.machine.specs.Lent.{stateOf}
 use Rattle.machine.specs.declared.State.{State}
-use Rattle.machine.proofs.Lent.{refuses, settles, delivers, reads-has, submits-has, delivers-has, delivered-lent, read-taken, submit-taken, carry-taken}
+use Rattle.machine.proofs.Lent.{refuses, settles, delivers, delivered-lent, read-taken, submit-taken, carry-taken}
 use Rattle.machine.proofs.Stores.{close-may, close-taken}
 use Rattle.machine.proofs.take_in.Statement.{statement}
 use Rattle.machine.proofs.take_in.Tie as tie
@@ -35,7 +35,7 @@ read-requires : tie.Need-read-requires
 unfolding refusalIn
 read-requires c κs =
     let (T, (p, _)) = c .before .before .before .before .before .before .before .before .before .before .before .pre in
-    let k = reads-has T _ _ _ _ (p .fits) (rw (c .before .before .before .x .given .1) at (ok (c .before .before .before .before .before) T p)) in
+    let k = read-has T _ _ _ _ (p .fits) (rw (c .before .before .before .x .given .1) at (ok (c .before .before .before .before .before) T p)) in
     (p .laid, (k .row, (k .read, k .site)))
 
 enum-known-x-2 : tie.Need-enum-known-x-2
@@ -43,7 +43,7 @@ enum-known-x-2 c = search needs
 
 submit-requires : tie.Need-submit-requires
 unfolding refusalIn
-submit-requires c κs = let (T, (p, _)) = c .before .before .before .before .before .before .before .before .before .before .pre in (p .laid, submits-has T _ _ _ (p .fits) (rw (c .before .before .x2 .given .1) at (ok (c .before .before .before .before) T p)))
+submit-requires c κs = let (T, (p, _)) = c .before .before .before .before .before .before .before .before .before .before .pre in (p .laid, submit-has T _ _ _ (p .fits) (rw (c .before .before .x2 .given .1) at (ok (c .before .before .before .before) T p)))
 
 enum-known-x-3 : tie.Need-enum-known-x-3
 enum-known-x-3 c = search needs
@@ -52,7 +52,7 @@ deliver-requires : tie.Need-deliver-requires
 unfolding refusalIn
 deliver-requires c κs =
     let (T, (p, _)) = c .before .before .before .before .before .before .before .before .before .before .before .before .pre in
-    let k = delivers-has T _ _ _ _ (p .fits) (rw (c .before .before .before .before .x3 .given .1) at (ok (c .before .before .before .before .before .before) T p)) in
+    let k = deliver-has T _ _ _ _ (p .fits) (rw (c .before .before .before .before .x3 .given .1) at (ok (c .before .before .before .before .before .before) T p)) in
     (T, (p, (omega (arith, k .0, p .fits .sites), k .1)))
 
 enum-known-x-4 : tie.Need-enum-known-x-4
@@ -88,7 +88,7 @@ returns-2 c T r _ =
     let o = c .before .before .before .before .before .before .before .before .before .before .before .before in
     let e = c .read .ensures in
     let z = rw (c .before .before .before .before .x .given .1) at (ok (c .before .before .before .before .before .before) T (r .0)) in
-    let k = reads-has T _ _ _ _ (r .0 .fits) z in
+    let k = read-has T _ _ _ _ (r .0 .fits) z in
     rw (c .before .before .before .before .x .given .1, e .0 .0, e .0 .1 .0, e .1 .0)
     (read-taken T (o .args .numbers .now) (o .args .flags .now) (o .args .marks .now) (o .args .carried .now) _ _ _ _ k (r .0 .readKeys _ _ (k .txn) (k .read)) (r .0 .laid .readLow _ _ (rw (r .0 .txns) (k .txn)) (rw (r .0 .reads _ (k .txn)) (k .count))) z (e .1 .1) (e .0 .1 .1))
 
@@ -98,7 +98,7 @@ returns-3 c T r _ =
     let o = c .before .before .before .before .before .before .before .before .before .before .before in
     let e = rw (r .0 .txns) at (c .submit .ensures) in
     let z = rw (c .before .before .before .x2 .given .1) at (ok (c .before .before .before .before .before) T (r .0)) in
-    rw (c .before .before .before .x2 .given .1, e .0, e .1 .0) (submit-taken T (o .args .numbers .now) (o .args .flags .now) (o .args .marks .now) (o .args .carried .now) _ _ (submits-has T _ _ _ (r .0 .fits) z) refl z (e .1 .1))
+    rw (c .before .before .before .x2 .given .1, e .0, e .1 .0) (submit-taken T (o .args .numbers .now) (o .args .flags .now) (o .args .marks .now) (o .args .carried .now) _ _ (submit-has T _ _ _ (r .0 .fits) z) refl z (e .1 .1))
 
 returns-4 : tie.Need-returns-4
 unfolding refusalIn
@@ -106,7 +106,7 @@ returns-4 c T r _ =
     let o = c .before .before .before .before .before .before .before .before .before .before .before .before .before in
     let e = c .deliver .ensures T (r .0) in
     let z = rw (c .before .before .before .before .before .x3 .given .1) at (ok (c .before .before .before .before .before .before .before) T (r .0)) in
-    let k = delivers-has T _ _ _ _ (r .0 .fits) z in
+    let k = deliver-has T _ _ _ _ (r .0 .fits) z in
     rw (c .before .before .before .before .before .x3 .given .1, e .0)
     (delivers (start o T) _ _ _ _ z refl refl (rw (e .1 .0 .0, e .1 .1 .0) (delivered-lent T (o .args .numbers .now) (o .args .flags .now) (o .args .marks .now) (o .args .carried .now) _ _ _ (omega (arith, k .1, r .0 .fits .txns)) (omega (arith, k .0, r .0 .fits .sites)) (e .1 .0 .1) (e .1 .1 .1))))
 

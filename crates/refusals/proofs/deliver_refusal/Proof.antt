@@ -11,7 +11,7 @@ use Rattle.tables.specs.declared.Tables.{Tables}
 use Rattle.plan.specs.Plan.{Plan}
 use Rattle.layout.specs.Layout.{thePlaces, theDelivered, theClosed}
 use Rattle.refusals.specs.Refusals.{deliverRefusalIn}
-use Rattle.refusals.proofs.Next.{next-low}
+use Rattle.refusals.proofs.Passed.{next-low}
 use Rattle.refusals.proofs.deliver_refusal.Statement.{statement}
 use Rattle.refusals.proofs.deliver_refusal.Tie as tie
 
