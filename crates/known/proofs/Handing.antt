@@ -20,7 +20,6 @@ use Rattle.bounded.proofs.Laws.{first-same, first-only, first-none, first-has}
 use Rattle.keys.specs.Keys.{member, adding}
 use Rattle.keys.proofs.Laws.{adding-same, adding-other}
 use Rattle.tables.specs.Sites.{siteCount}
-use Rattle.tables.specs.Concern.{local}
 use Rattle.tables.specs.Fits.{Fits}
 use Rattle.tables.specs.declared.Tables.{Tables}
 use Rattle.layout.proofs.Laws.{portion-at}
@@ -52,7 +51,6 @@ head-found T fits w order l k s r low long none here =
 -- nothing can be closed or delivered, and no transaction before t has a vote to carry
 pub record Handing (T : Tables) (w : Parts) (t : ℕ) : Type 0 where
   pub txn : t < T .txns
-  pub global : local T t ≡ false
   pub closes : (u s : ℕ) → closing T w u s ≡ 0 → ⊥
   pub delivers : nowhere ≤ firstDeliveringIn T (w .places) (w .delivered) (w .closed)
   pub least : (u : ℕ) → u < T .txns → ltb (firstFromIn T (w .cast) (w .carried) u) nowhere ≡ true → placeIn (w .places) t ≤ placeIn (w .places) u
@@ -82,7 +80,6 @@ module _ (T : Tables) (fits : Fits T) (w : Parts) where
         let g = first-has (T .txns) (placeIn (w .places)) (λ u. ltb (firstFromIn T (w .cast) (w .carried) u) nowhere) nobody (fits .txns) (rw e at (says .low)) in
         record {
           txn = next-carries .txn;
-          global = next-carries .global;
           closes = nothing-closes T w fits (says .closes);
           delivers = says .delivers;
           least = λ u m h. rw e (g .least u m h);
@@ -187,7 +184,6 @@ module _ (T : Tables) (fits : Fits T) (w : Parts) (t f s : ℕ) (was : Carries T
     pub handed-hands : (closing T (carriedParts w (handed (w .carried) t f s)) t s ≡ 0 → ⊥) → Handing T (carriedParts w (handed (w .carried) t f s)) t
     handed-hands shut = record {
       txn = g .txn;
-      global = g .global;
       closes = λ u r z. let (e, q) = handed-closes u r z in shut (rw (e, q) at z);
       delivers = g .delivers;
       least = λ u m h. elim (same u t) [ inl e ↦ rw e (omega arith) | inr d ↦ g .least u m (rw (from-same u d) at h) ];

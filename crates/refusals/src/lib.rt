@@ -113,7 +113,7 @@ fn vote_refusal<'a>(
     0
 }
 
-fn carry_refusal<'a>(
+pub fn carry_refusal<'a>(
     plan: &'a [u64; 3666],
     marks: &'a [u8; 4096],
     carried: &'a [u16; 2048],

@@ -2,7 +2,7 @@
 -- Assumes nothing.
 use Prim.Native.Nat.{ℕ, _+_, _-_, _≤_, _<_}
 use mathlib.Core.Path.{_≡_, refl, sym, ap, subst, _∙_}
-use mathlib.Core.Bool.{Bool, true, false, _&&_, not, cond}
+use mathlib.Core.Bool.{Bool, true, false, not, cond}
 use mathlib.Core.List.{List}
 use mathlib.Core.Logic.{inl, inr}
 use native.Mathlib.Omega.{arith}
@@ -14,20 +14,17 @@ use Rattle.order.specs.Order.{Ordered, waitsIn, waitsAt, queuedAt}
 use Rattle.order.proofs.Order.{order-first, order-none, rank-below}
 use Rattle.bounded.specs.Bounded.{leastBelow}
 use Rattle.bounded.proofs.Truth.{bool, clash, same}
-use Rattle.keys.specs.Keys.{member}
 use Rattle.tables.specs.Sites.{siteCount}
-use Rattle.tables.specs.Concern.{concerns, local}
 use Rattle.tables.specs.Fits.{Fits}
 use Rattle.tables.specs.declared.Tables.{Tables}
 use Rattle.layout.proofs.Laws.{portion-other}
-use Rattle.layout.specs.Cells.{cell, nobody}
+use Rattle.layout.specs.Cells.{nobody}
 use Rattle.steps.specs.declared.Place.{Place}
-use Rattle.refusals.specs.Refusals.{deliverRefusalIn, voteRefusalIn, carryRefusalIn}
+use Rattle.refusals.specs.Refusals.{deliverRefusalIn}
 use Rattle.search.specs.Search.{Parts, nowhere, firstFromIn, firstCarriedIn}
 use Rattle.search.specs.declared.Todo.{Todo}
 use Rattle.search.specs.declared.Todo.the-variants.{Close, Deliver, Carry, Nothing}
 use Rattle.search.specs.Known.{PassedTo, firstPair, passedIn, nextAt, lowAt, topAt, openAt, Knows}
-use Rattle.refusals.proofs.Passed.{Carries, carry-has}
 use Rattle.search.proofs.Pair.{pair-passed, pair-none, pair-from, from-pair}
 use Rattle.search.proofs.Entries.{passed-is, put-same, put-other}
 use Rattle.search.proofs.Stored.{knows-next, knows-moved, knows-top, knows-passed, knows-open}
@@ -134,25 +131,6 @@ no-delivery x s h e = clash (ap delivers e) h
 -- one DELIVER is at one site
 pub same-site : (r s : ℕ) → Deliver r ≡ Deliver s → r ≡ s
 same-site r s e = ap siteOf e
-
--- ---- CARRY of one vote
-
--- refused, where one of the tests fails
-pub carry-not : (T : Tables) (cast carried : List ℕ) (t f s : ℕ) → (Carries T cast carried t f s → ⊥) → false ≡ eqb (carryRefusalIn T cast carried t f s) 0
-carry-not T cast carried t f s h = sym (ne-eqb _ _ (λ z. h (carry-has T cast carried t f s z)))
-
--- a vote on a global transaction that was cast is carried to another site, if that is concerned and has it not
-pub carry-answers : (T : Tables) (cast carried : List ℕ) (t f s : ℕ) (b : Bool) → t < T .txns → f < siteCount T → s < siteCount T → local T t ≡ false → (f ≡ s → ⊥)
-    → (cell 0 cast t f ≡ 0 → ⊥) → b ≡ concerns T t s
-    → (b && not (member (cell 0 carried t s) f)) ≡ eqb (carryRefusalIn T cast carried t f s) 0
-unfolding carryRefusalIn voteRefusalIn
-carry-answers T cast carried t f s b l m n g d v e =
-    rw (lt-leb (T .txns) t l, lt-leb (siteCount T) f m, lt-leb (siteCount T) s n, g, ne-eqb f s d, ne-eqb (cell 0 cast t f) 0 v, ← e) (tested b (member (cell 0 carried t s) f))
-  where
-    tested : (b h : Bool) → (b && not h) ≡ eqb (cond (not b) 23 (cond h 24 0)) 0
-    tested true true = refl
-    tested true false = refl
-    tested false h = refl
 
 -- ---- CARRY by positions
 

@@ -45,7 +45,7 @@ carries c T from to p k e =
     let a = c .before .before .before .before .before .before .before .before .before .before .before .before .before .before .args in
     let b = c .before .before .before .before .before .before .before .before .before .before .before .before .loop in
     let g = b .inv .3 T from to p k e in
-    let z = sym (c .before .before .before .before .before .before .before .before .can-carry .ensures T p (g .handing .global)) ∙ c .before .before .before .before .before .before .before .if2 .taken in
+    let z = sym (c .before .before .before .before .before .before .before .before .can-carry .ensures T p) ∙ c .before .before .before .before .before .before .before .if2 .taken in
     let h = c .before .before .before .before .before .before .before .before .before .before .before .loop-test .taken in
     let hand = c .before .before .before .before .before .hand .ensures in
     let put = c .before .before .before .put .ensures in
@@ -77,7 +77,7 @@ cast-s : tie.Need-cast-s Inv-loop μ-loop
 cast-s c = omega arith
 
 can-carry-requires : tie.Need-can-carry-requires Inv-loop μ-loop
-can-carry-requires c κs = (c .before .before .before .before .before .pre .0 .0, (c .before .before .before .before .before .pre .1, (omega (arith, c .before .before .loop-test .taken), omega arith)))
+can-carry-requires c κs = let o = c .before .before .before .before .before in (o .pre .0 .0, (omega (arith, o .pre .0 .0 .txns, o .pre .1), (omega (arith, c .before .before .loop-test .taken), omega arith)))
 
 mul-hand : tie.Need-mul-hand Inv-loop μ-loop
 mul-hand c = omega (arith, c .before .before .before .before .before .before .before .before .pre .0 .0 .txns, c .before .before .before .before .before .before .before .before .pre .1)
@@ -153,7 +153,7 @@ loop-again c = ⊎-elim
       b .inv .0,
       b .inv .1,
       b .inv .2,
-      λ T from to p k e. let g = b .inv .3 T from to p k e in goes-by T (p .fits) _ _ _ _ _ _ _ g (sym (c .before .can-carry .ensures T p (g .handing .global)) ∙ w .0 .left),
+      λ T from to p k e. let g = b .inv .3 T from to p k e in goes-by T (p .fits) _ _ _ _ _ _ _ g (sym (c .before .can-carry .ensures T p) ∙ w .0 .left),
     ))
     (c .if2 .came)
 

@@ -38,12 +38,12 @@ cast-can-carry-2 : tie.Need-cast-can-carry-2 Inv-loop μ-loop
 cast-can-carry-2 c = search needs
 
 can-carry-requires : tie.Need-can-carry-requires Inv-loop μ-loop
-can-carry-requires c κs = (c .before .before .before .before .pre .0, (c .before .before .before .before .pre .1, (omega (arith, c .loop-test .taken), omega arith)))
+can-carry-requires c κs = let o = c .before .before .before .before in (o .pre .0, (omega (arith, o .pre .0 .txns, o .pre .1), (omega (arith, c .loop-test .taken), omega arith)))
 
 -- and about the pair
 tried : (c : tie.After-can-carry Inv-loop μ-loop) (T : Tables) → Plan T (c .before .before .before .before .before .args .plan .now)
     → c .can-carry .result ≡ open-pair T (theCast (c .before .before .before .before .before .args .marks .now)) (c .before .before .before .before .before .args .carried .now) (c .before .before .before .before .before .args .t) (c .before .before .loop .q)
-tried c T p = c .can-carry .ensures T p (sym (said (c .before .before .before .before) T p) ∙ c .before .before .before .if1 .left)
+tried c T p = c .can-carry .ensures T p
 
 returns-2 : tie.Need-returns-2 Inv-loop μ-loop
 returns-2 c = (λ T p k. sym (pair-stop T _ _ _ _ (c .before .before .loop-test .taken) (c .before .before .before .loop .inv T p k) (sym (tried (c .before) T p) ∙ c .if2 .taken)), omega (arith, c .before .before .loop-test .taken))
