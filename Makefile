@@ -22,7 +22,7 @@ fuzz: target/oracle
 # Both programs side by side on the same files, in one run.
 bench: target/oracle
 	@rt check pstore >target/bench.log 2>&1 || { cat target/bench.log; exit 1; }
-	@if [ "$$(uname -m)" = x86_64 ]; then on=; else on=host/on; fi; python3 host/bench.py target/oracle $$on target/bin/pstore
+	@if [ "$$(uname -m)" = x86_64 ]; then on=; else on=host/on; echo "pstore runs emulated here: its times are no measure against the second program's"; fi; python3 host/bench.py target/oracle $$on target/bin/pstore
 
 target/oracle: $(wildcard oracle/src/*.rs)
 	@mkdir -p target

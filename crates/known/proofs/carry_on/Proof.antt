@@ -1,4 +1,4 @@
--- `search::carry_on` meets its contract. The invariant: k votes were carried, only votes on t are to be carried still, and its first q pairs are passed (`Goes`).
+-- `known::carry_on` meets its contract. The invariant: k votes were carried, only votes on t are to be carried still, and its first q pairs are passed (`Goes`).
 -- Where the pair q carries, only t can be closed by it, at the site that took the vote: the code there is t, and nobody once `closes_now` has said no.
 -- The measure is what is left of the pairs. Assumes nothing.
 use Prim.Native.Nat.{ℕ, _-_, _%_, _≤_}

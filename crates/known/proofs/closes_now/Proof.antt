@@ -1,4 +1,4 @@
--- `search::closes_now` meets its contract. From the first position that may be in the queue on, `head_from` finds the head.
+-- `known::closes_now` meets its contract. From the first position that may be in the queue on, `head_from` finds the head.
 -- Assumes nothing.
 use Prim.Native.Nat.{_+_}
 use mathlib.Core.Path.{_≡_, refl, sym, subst, _∙_}
