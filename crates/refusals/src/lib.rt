@@ -1,8 +1,12 @@
 // The number that refuses a step, 0 where it is accepted, asked of the plan of the tables and of lent parts of a state.
 ghost use mathlib.Core.Path.{_≡_};
+ghost use mathlib.Core.Bool.{Bool};
+ghost use mathlib.Core.List.{List};
 ghost use Prim.Native.Nat.{_<_};
 ghost use Rattle.tables.specs.declared.Tables.{Tables};
 ghost use Rattle.plan.specs.Plan.{txnsOf, Laid, Plan};
+ghost use Rattle.queues.specs.Queue.{headIn};
+ghost use Rattle.steps.specs.declared.Place.{Place};
 ghost use Rattle.layout.specs.Layout.{theVersions, thePlaces, theRecorded, theDelivered, theClosed, theCast};
 ghost use Rattle.refusals.specs.Refusals.{readRefusalIn, submitRefusalIn, deliverRefusalIn, voteRefusalIn, carryRefusalIn, verdictRefusalIn, closeRefusalIn, refusalIn};
 use steps::Step;
@@ -144,26 +148,26 @@ pub fn carry_refusal<'a>(
 
 // ---- CLOSE
 
-// What refuses the closing of one in the queue.
-fn verdict_refusal<'a>(
+// What refuses the closing of one in the queue, where head says whether it is at the head.
+pub fn verdict_refusal<'a>(
     plan: &'a [u64; 3666],
     numbers: &'a [u32; 4224],
-    flags: &'a [bool; 3072],
     marks: &'a [u8; 4096],
     carried: &'a [u16; 2048],
     t: usize,
     s: usize,
+    head: bool,
 ) -> u8
     requires { ⌜ Laid (now plan) ⌝ }
     requires { ⌜ (t < txnsOf (now plan)) × (s < 16) ⌝ }
-    ensures { λ r. ⌜ ((T : Tables) → Plan T (now (plan .entry)) → r ≡ verdictRefusalIn T (theVersions (now (numbers .entry))) (thePlaces (now (numbers .entry))) (theDelivered (now (flags .entry))) (theClosed (now (marks .entry))) (theCast (now (marks .entry))) (now (carried .entry)) t s) ⌝ }
+    ensures { λ r. ⌜ ((T : Tables) (places : List Place) (delivered : List Bool) → Plan T (now (plan .entry)) → head ≡ headIn places delivered (theClosed (now (marks .entry))) (T .txns) t s → r ≡ verdictRefusalIn T (theVersions (now (numbers .entry))) places delivered (theClosed (now (marks .entry))) (theCast (now (marks .entry))) (now (carried .entry)) t s) ⌝ }
 {
     let v = rules::verdict(plan, marks, carried, t, s);
     if v == 0 {
         return 30;
     }
     if v == 1 {
-        if queues::is_at_head(plan, numbers, flags, marks, t, s) {
+        if head {
             if rules::has_room(plan, numbers, t, s) {
                 return 0;
             }
@@ -199,7 +203,8 @@ fn close_refusal<'a>(
             return 24;
         }
         if flags[1024 + at * 16 + site] {
-            return verdict_refusal(plan, numbers, flags, marks, carried, at, site);
+            let head = queues::is_at_head(plan, numbers, flags, marks, at, site);
+            return verdict_refusal(plan, numbers, marks, carried, at, site, head);
         }
         return 29;
     }

@@ -1,8 +1,8 @@
 -- What can be closed at a site, where the transactions in its queue stand between two positions of the order.
 -- Assumes nothing.
 use Prim.Native.Nat.{ℕ, _+_, _*_, _/_, _%_, _≤_, _<_}
-use mathlib.Core.Path.{_≡_, refl, sym, _∙_}
-use mathlib.Core.Bool.{Bool, true, false, _&&_, not, cond}
+use mathlib.Core.Path.{_≡_, sym, _∙_}
+use mathlib.Core.Bool.{Bool, true, false, cond}
 use mathlib.Core.List.{List}
 use mathlib.Core.Logic.{inl, inr}
 use native.Mathlib.Omega.{arith}
@@ -11,10 +11,10 @@ use lib.ListN.{length, getD, set}
 use borrow.Author.Tests.{eq-eqb, ne-eqb, eqb-true, lt-leb, lt-ltb, ltb-true, ltb-false}
 use Rattle.queues.specs.Queue.{queuedIn}
 use Rattle.order.specs.Order.{Ordered, queuedAt}
-use Rattle.order.proofs.Order.{order-first, order-none, head-first}
+use Rattle.order.proofs.Order.{order-first, order-none}
 use Rattle.order.proofs.Positions.{head-is}
 use Rattle.bounded.specs.Bounded.{firstBelow, leastBelow}
-use Rattle.bounded.proofs.Truth.{and-true, and-put, bool, clash, same}
+use Rattle.bounded.proofs.Truth.{and-true, and-put, bool, clash}
 use Rattle.bounded.proofs.Laws.{least-stop}
 use Rattle.tables.specs.Sites.{siteCount}
 use Rattle.tables.specs.Concern.{concerns}
@@ -24,7 +24,6 @@ use Rattle.plan.specs.Plan.{txnsOf, Plan}
 use Rattle.layout.specs.Layout.{thePlaces, theDelivered}
 use Rattle.layout.proofs.Laws.{portion-length}
 use Rattle.layout.specs.Cells.{placeIn, cell, nobody}
-use Rattle.rules.specs.Asked.{verdictAt, roomOf}
 use Rattle.refusals.specs.Refusals.{verdictRefusalIn, closeRefusalIn}
 use Rattle.search.specs.Search.{Parts, closing, nowhere, closesFirstIn, firstClosingIn}
 use Rattle.search.specs.Known.{any, KnowsAt, Knows}
@@ -42,29 +41,14 @@ only-queued T w t s h = ne-eqb _ _ (λ z. let g = close-has T w t s z in clash (
 pub only-concerned : (T : Tables) (w : Parts) (t s : ℕ) → concerns T t s ≡ false → eqb (closing T w t s) 0 ≡ false
 only-concerned T w t s h = ne-eqb _ _ (λ z. clash (close-has T w t s z .concerned) h)
 
--- what is in it and concerns s is judged by the verdict v; a commit is the head of the queue and has room
-pub by-verdict : (T : Tables) (w : Parts) (t s v head : ℕ) → T .txns ≤ nobody → t < T .txns → s < siteCount T → concerns T t s ≡ true → queuedIn (w .delivered) (w .closed) s t ≡ true
-    → v ≡ verdictAt T (w .cast) (w .carried) t s
-    → head ≡ firstBelow (T .txns) (placeIn (w .places)) (queuedIn (w .delivered) (w .closed) s) nobody
-    → eqb (closing T w t s) 0 ≡ cond (eqb v 1) (eqb head t && roomOf T (w .versions) t s) (not (eqb v 0))
-unfolding closeRefusalIn verdictRefusalIn
-by-verdict T w t s v head fits l k concerned queued e f =
+-- what is in it and concerns s is judged by its verdict
+pub by-verdict : (T : Tables) (w : Parts) (t s : ℕ) → t < T .txns → s < siteCount T → concerns T t s ≡ true → queuedIn (w .delivered) (w .closed) s t ≡ true
+    → closing T w t s ≡ verdictRefusalIn T (w .versions) (w .places) (w .delivered) (w .closed) (w .cast) (w .carried) t s
+unfolding closeRefusalIn
+by-verdict T w t s l k concerned queued =
     let (d, o) = and-true (cell false (w .delivered) t s) (eqb (cell 0 (w .closed) t s) 0) queued in
     let z : cell 0 (w .closed) t s ≡ 0 = eqb-true _ _ o in
-    rw (lt-leb _ _ l, lt-leb _ _ k, concerned, z, d, head-first (w .places) (w .delivered) (w .closed) (T .txns) t s fits l queued, ← e, ← f)
-    (judged v (eqb head t) (roomOf T (w .versions) t s))
-  where
-    commit : (head room : Bool) → eqb (cond (not head) 31 (cond (not room) 32 0)) 0 ≡ (head && room)
-    commit true true = refl
-    commit true false = refl
-    commit false room = refl
-
-    judged : (v : ℕ) (head room : Bool)
-        → eqb (cond (eqb v 0) 30 (cond (eqb v 1 && not head) 31 (cond (eqb v 1 && not room) 32 0))) 0 ≡ cond (eqb v 1) (head && room) (not (eqb v 0))
-    judged v head room = elim (same v 0) [
-      | inl e ↦ rw e
-      | inr d ↦ elim (same v 1) [ inl e ↦ rw e (commit head room) | inr o ↦ rw (ne-eqb v 0 d, ne-eqb v 1 o) ]
-    ]
+    rw (lt-leb _ _ l, lt-leb _ _ k, concerned, z, d)
 
 -- ---- the transactions of a queue between the positions p and q of the order
 

@@ -93,11 +93,14 @@ add-if5-2 c = search needs
 element-copy-out-if5 : tie.Need-element-copy-out-if5
 element-copy-out-if5 c = search needs
 
+is-at-head-requires : tie.Need-is-at-head-requires
+is-at-head-requires c κs = search needs
+
 verdict-refusal-requires : tie.Need-verdict-refusal-requires
 verdict-refusal-requires c κs = search needs
 
 returns-4 : tie.Need-returns-4
-returns-4 c T p = rw (left (c .before .before .before .before .before .before) T p, c .before .before .before .before .before .if3 .taken, le-ltb _ _ (c .before .before .before .if4 .left), c .before .if5 .taken, c .verdict-refusal .ensures T p)
+returns-4 c T p = rw (left (c .before .before .before .before .before .before .before) T p, c .before .before .before .before .before .before .if3 .taken, le-ltb _ _ (c .before .before .before .before .if4 .left), c .before .before .if5 .taken) (c .verdict-refusal .ensures T _ _ p (rw (← p .txns) (c .before .is-at-head .ensures)))
 
 returns-5 : tie.Need-returns-5
 returns-5 c T p = rw (left (c .before .before .before .before .before) T p, c .before .before .before .before .if3 .taken, le-ltb _ _ (c .before .before .if4 .left), c .if5 .left)
@@ -124,6 +127,7 @@ close-refusal-spec =
     add-if5
     add-if5-2
     element-copy-out-if5
+    is-at-head-requires
     verdict-refusal-requires
     returns-4
     returns-5

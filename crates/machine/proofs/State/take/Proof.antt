@@ -10,12 +10,20 @@ use borrow.Author.Needs.{needs}
 use Rattle.machine.proofs.State.take.Statement.{statement}
 use Rattle.machine.proofs.State.take.Tie as tie
 
--- the arrays hold the state
-whole : (c : tie.After-carried2) → stateOf (c .before .before .before .before .before .before .before .before .before .before .before .before .before .before .before .before .before .args .t1 .tables) (c .before .before .before .before .before .before .before .before .before .before .before .before .before .before .numbers .result) (c .before .before .before .before .before .before .before .before .before .before .flags-of .result) (c .before .before .before .before .before .before .marks-of .result) (c .before .before .before .before .before .before .before .before .before .before .before .before .before .before .before .before .before .args .t1 .carried) ≡ c .before .before .before .before .before .before .before .before .before .before .before .before .before .before .before .before .before .args .t1
-whole c = holds-all (c .before .before .before .before .before .before .before .before .before .before .before .before .before .before .before .before .before .args .t1) (c .before .before .before .before .before .before .before .before .before .before .before .before .before .before .numbers .result) (c .before .before .before .before .before .before .before .before .before .before .flags-of .result) (c .before .before .before .before .before .before .marks-of .result) (c .before .before .before .before .before .before .before .before .before .before .before .before .before .before .numbers .ensures .0) (c .before .before .before .before .before .before .before .before .before .before .before .before .before .before .numbers .ensures .1 .0) (c .before .before .before .before .before .before .before .before .before .before .before .before .before .before .numbers .ensures .1 .1) (c .before .before .before .before .before .before .before .before .before .before .flags-of .ensures) (c .before .before .before .before .before .before .marks-of .ensures)
+-- the state that the arrays hold
+abbrev held : tie.After-carried2 → State
+held c = stateOf (c .before .before .before .before .before .before .before .before .before .before .before .before .before .before .before .before .before .args .t1 .tables) (c .before .before .before .before .before .before .before .before .before .before .before .before .before .before .numbers .result) (c .before .before .before .before .before .before .before .before .before .before .flags-of .result) (c .before .before .before .before .before .before .marks-of .result) (c .before .before .before .before .before .before .before .before .before .before .before .before .before .before .before .before .before .args .t1 .carried)
+
+-- is the state
+whole : (c : tie.After-carried2) → held c ≡ c .before .before .before .before .before .before .before .before .before .before .before .before .before .before .before .before .before .args .t1
+whole c =
+    let numbers = c .before .before .before .before .before .before .before .before .before .before .before .before .before .before .numbers in
+    let flags = c .before .before .before .before .before .before .before .before .before .before .flags-of in
+    let marks = c .before .before .before .before .before .before .marks-of in
+    holds-all (c .before .before .before .before .before .before .before .before .before .before .before .before .before .before .before .before .before .args .t1) (numbers .result) (flags .result) (marks .result) (numbers .ensures .0) (numbers .ensures .1 .0) (numbers .ensures .1 .1) (flags .ensures) (marks .ensures)
 
 -- and a step can run in them
-ready : (c : tie.After-carried2) → Ready (stateOf (c .before .before .before .before .before .before .before .before .before .before .before .before .before .before .before .before .before .args .t1 .tables) (c .before .before .before .before .before .before .before .before .before .before .before .before .before .before .numbers .result) (c .before .before .before .before .before .before .before .before .before .before .flags-of .result) (c .before .before .before .before .before .before .marks-of .result) (c .before .before .before .before .before .before .before .before .before .before .before .before .before .before .before .before .before .args .t1 .carried)) (c .before .before .before .before .before .before .before .before .before .before .before .before .before .before .before .plan-of .result)
+ready : (c : tie.After-carried2) → Ready (held c) (c .before .before .before .before .before .before .before .before .before .before .before .before .before .before .before .plan-of .result)
 ready c = (c .before .before .before .before .before .before .before .before .before .before .before .before .before .before .before .plan-of .ensures, rw (whole c) (c .before .before .before .before .before .before .before .before .before .before .before .before .before .before .before .before .before .pre))
 
 plan-of-requires : tie.Need-plan-of-requires
@@ -37,7 +45,11 @@ state-of-requires : tie.Need-state-of-requires
 state-of-requires c κs = search needs
 
 returns : tie.Need-returns
-returns c = let e = c .before .before .before .before .take-in .ensures (c .before .before .before .before .before .before .before .before .before .before .before .before .before .before .before .before .before .before .before .before .before .before .args .t1 .tables) (ready (c .before .before .before .before .before)) (λ h. clash h refl) in stepped (c .before .before .before .before .before .before .before .before .before .before .before .before .before .before .before .before .before .before .before .before .before .before .args .t1) (c .before .before .before .before .before .before .before .before .before .before .before .before .before .before .before .before .before .before .before .before .before .before .args .x) (c .before .before .before .before .take-in .result) (c .state-of .result) (subst (λ (st : State). Takes st (c .before .before .before .before .before .before .before .before .before .before .before .before .before .before .before .before .before .before .before .before .before .before .args .x) (c .before .before .before .before .take-in .result) (c .state-of .result)) (whole (c .before .before .before .before .before)) (e .0, c .state-of .ensures ∙ e .1))
+returns c =
+    let a = c .before .before .before .before .before .before .before .before .before .before .before .before .before .before .before .before .before .before .before .before .before .before .args in
+    let step = c .before .before .before .before .take-in in
+    let e = step .ensures (a .t1 .tables) (ready (c .before .before .before .before .before)) (λ h. clash h refl) in
+    stepped (a .t1) (a .x) (step .result) (c .state-of .result) (subst (λ (st : State). Takes st (a .x) (step .result) (c .state-of .result)) (whole (c .before .before .before .before .before)) (e .0, c .state-of .ensures ∙ e .1))
 
 pub take-spec : {M : Type 1} → statement M
 take-spec =
