@@ -1,7 +1,7 @@
-// The protocol's questions, asked of the plan of the tables and of lent parts of a state: the queue, the next to deliver, votes, verdicts.
+// Votes, verdicts and room for a commit, asked of the plan of the tables and of lent parts of a state; and the states that a step can run on.
 ghost use mathlib.Core.Path.{_≡_};
-ghost use mathlib.Core.Bool.{false, _||_, not, cond};
-ghost use Prim.Native.Nat.{ℕ, _+_, _≤_, _<_};
+ghost use mathlib.Core.Bool.{false, _&&_, _||_, not, cond};
+ghost use Prim.Native.Nat.{ℕ, _+_, _*_, _≤_, _<_};
 ghost use lib.Dec.{eqb};
 ghost use lib.ListN.{getD, set, length};
 ghost use Rattle.bounded.specs.Bounded.{allBelow};
@@ -11,10 +11,11 @@ ghost use Rattle.tables.specs.Sites.{siteCount, siteKeys};
 ghost use Rattle.tables.specs.declared.Tables.{Tables};
 ghost use Rattle.plan.specs.Plan.{txnsOf, Laid, Plan};
 ghost use Rattle.layout.specs.Layout.{theVersions, theReadVersions, theRecorded, theCast};
-ghost use Rattle.layout.specs.Cells.{cell, recordedIn};
+ghost use Rattle.layout.specs.Cells.{cell, versionIn, recordedIn};
 ghost use Rattle.rules.specs.Votes.{certifyIn, holdsVote, coveredIn};
 ghost use Rattle.rules.specs.Asked.{voteIn, verdictAt, roomOf};
 ghost use Rattle.rules.specs.Fit.{countsFit, rowFits, txnFits, txnsFit, placesFit};
+ghost use Rattle.steps.specs.Kinds.{version};
 use steps::Place;
 use tables::wide;
 
@@ -36,6 +37,24 @@ pub fn is_recorded(flags: &[bool; 3072], n: usize, t: usize) -> bool
     true
 }
 
+// Whether t's i-th read, of key k, has the recorded version at s.
+fn is_current<'a>(
+    numbers: &'a [u32; 4224],
+    flags: &'a [bool; 3072],
+    t: usize,
+    i: usize,
+    s: usize,
+    k: u8,
+) -> bool
+    requires { ⌜ ((t < 128) × (i < 8)) × ((s < 16) × (k < 64)) ⌝ }
+    ensures { λ r. ⌜ r ≡ (recordedIn (theRecorded (now (flags .entry))) t i && eqb (versionIn (theVersions (now (numbers .entry))) s k) (getD (theReadVersions (now (numbers .entry))) (t * 8 + i) (version 0) .0)) ⌝ }
+{
+    if flags[t * 8 + i] {
+        return numbers[s * 64 + wide(k)] == numbers[2048 + t * 8 + i];
+    }
+    false
+}
+
 // The certification of t at s: 1 for yes, 2 for no.
 fn certify<'a>(
     plan: &'a [u64; 3666],
@@ -54,13 +73,10 @@ fn certify<'a>(
         i -= 1;
         let k = plan::read_key(plan, t, i);
         if keys::has_key(m, k) {
-            if flags[t * 8 + i] {
-                if numbers[s * 64 + wide(k)] != numbers[2048 + t * 8 + i] {
-                    return 2;
-                }
-            } else {
-                return 2;
+            if is_current(numbers, flags, t, i, s, k) {
+                continue;
             }
+            return 2;
         }
     }
     1
