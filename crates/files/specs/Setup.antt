@@ -30,6 +30,11 @@ inSetup T tag = allowed (T .keys) (T .groups) (T .txns) tag
 abbrev pub reading : Progress → Tables → Setup
 reading p T = record { progress = p; tables = T }
 
+-- where a judgement of the record at at leads: on past it, or to its refusal
+abbrev pub progressBy : ℕ → Judged → Progress
+progressBy at (Good tag start len next) = On next
+progressBy at (Bad n) = Refused n at
+
 -- the record at at is refused with n, the tables being as they were, or with 0 taken: on to next with the new tables
 unfoldable pub taken : Tables → ℕ → ℕ → Tables → ℕ → Setup
 taken T at n new next = cond (eqb n 0) (reading (On next) new) (reading (Refused n at) T)

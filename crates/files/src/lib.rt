@@ -8,7 +8,7 @@ ghost use Rattle.records.specs.Rule.{pairsLength};
 ghost use Rattle.records.specs.Judge.{judgeAt};
 ghost use Rattle.files.specs.Cut.{cutOf};
 ghost use Rattle.files.specs.Rows.{withKeys, withGroup, withTxn, readsOf, writesOf};
-ghost use Rattle.files.specs.Setup.{allowed, inSetup, taken, ended, turnBy, turnOf, readSetup};
+ghost use Rattle.files.specs.Setup.{allowed, inSetup, taken, ended, progressBy, turnBy, turnOf, readSetup};
 ghost use Rattle.files.specs.Schedule.{inSchedule, readSchedule, stepBy};
 ghost use Rattle.files.specs.File.{outcomeOf, opened, fileOf, restOf};
 use records::Judged;
@@ -126,6 +126,21 @@ fn judge_schedule(s: &[u8], at: usize) -> Judged
 {
     let found = records::record_from(s, at);
     records::judge(s, found, in_schedule(records::tag_of(found)))
+}
+
+// Where a record's judgement leads: on past it, or to its refusal.
+fn progress_by(judged: Judged, at: usize) -> Progress
+    ensures { λ r. ⌜ r ≡ progressBy at judged ⌝ }
+{
+    match judged {
+        Judged::Good {
+            tag: _,
+            start: _,
+            len: _,
+            next,
+        } => Progress::On(next),
+        Judged::Bad(n) => Progress::Refused { number: n, at },
+    }
 }
 
 // The tables with KEYS: its len / 4 first values.
@@ -288,18 +303,20 @@ fn turn(t: Tables, s: &[u8], at: usize) -> Setup
     requires { ⌜ t .groups ≤ 8 ⌝ }
     ensures { λ r. ⌜ r ≡ turnOf t (now (s .entry)) at ⌝ }
 {
-    match judge_setup(t, s, at) {
-        Judged::Good {
-            tag,
-            start,
-            len,
-            next,
-        } => good_turn(t, s, at, tag, start, len, next),
-        Judged::Bad(n) => Setup {
-            progress: Progress::Refused { number: n, at },
+    let judged = judge_setup(t, s, at);
+    let Judged::Good {
+        tag,
+        start,
+        len,
+        next,
+    } = judged
+    else {
+        return Setup {
+            progress: progress_by(judged, at),
             tables: t,
-        },
-    }
+        };
+    };
+    good_turn(t, s, at, tag, start, len, next)
 }
 
 // A setup, record by record, until one is END or is refused.
@@ -329,19 +346,17 @@ pub fn read_schedule(s: &[u8]) -> Progress
 {
     let mut at: usize = 0;
     while at != s.len() {
-        match judge_schedule(s, at) {
-            Judged::Good {
-                tag: _,
-                start: _,
-                len: _,
-                next,
-            } => {
-                at = next;
-            }
-            Judged::Bad(n) => {
-                return Progress::Refused { number: n, at };
-            }
-        }
+        let judged = judge_schedule(s, at);
+        let Judged::Good {
+            tag: _,
+            start: _,
+            len: _,
+            next,
+        } = judged
+        else {
+            return progress_by(judged, at);
+        };
+        at = next;
     }
     Progress::Ready
 }

@@ -6,7 +6,7 @@ use lib.ListN.{length}
 use borrow.Author.Tests.{eq-eqb, ne-eqb}
 use borrow.Author.Needs.{needs}
 use Rattle.files.specs.Schedule.{scheduleTurn, readSchedule}
-use Rattle.files.specs.Walk.{go, walk}
+use Rattle.files.specs.Walk.{go, stop, walk}
 use Rattle.files.specs.declared.Progress.the-variants.{Ready}
 use Rattle.files.proofs.Falls.{schedule-falls}
 use Rattle.files.proofs.Walk.{walk-stops, walk-goes}
@@ -20,10 +20,18 @@ abbrev μ-loop : tie.MeasureT-loop
 μ-loop s at₀ at = length s - at
 
 -- a record that is judged good: the turn goes on
-goes : (c : tie.After-known-told Inv-loop μ-loop) → scheduleTurn (c .before .before .before .before .before .before .before .args .s .now) (c .before .before .before .before .before .loop .at) ≡ go (c .before .next .given .0 .1 .1 .1 .0)
+goes : (c : tie.After-known-told Inv-loop μ-loop) →
+    scheduleTurn (c .before .before .before .before .before .before .before .args .s .now) (c .before .before .before .before .before .loop .at) ≡ go (c .before .judged .given .0 .1 .1 .1 .0)
 unfolding scheduleTurn
 goes c =
-    rw (ne-eqb _ _ (c .before .before .before .before .loop-test .taken), ← c .before .before .before .judge-schedule .ensures, c .before .next .given .1)
+    rw (ne-eqb _ _ (c .before .before .before .before .loop-test .taken), ← c .before .before .before .judge-schedule .ensures, c .before .judged .given .1)
+
+-- one that is not: it stops with the refusal
+stops : (c : tie.After-progress-by Inv-loop μ-loop) →
+    scheduleTurn (c .before .before .before .before .before .before .before .args .s .now) (c .before .before .before .before .before .loop .at) ≡ stop (c .progress-by .result)
+unfolding scheduleTurn
+stops c =
+    rw (c .progress-by .ensures, ne-eqb _ _ (c .before .before .before .before .loop-test .taken), ← c .before .before .before .judge-schedule .ensures, c .before .enum-told .given .1)
 
 loop-holds : tie.Need-loop-holds Inv-loop μ-loop
 unfolding readSchedule
@@ -32,22 +40,23 @@ loop-holds c = rw sub-zero
 judge-schedule-requires : tie.Need-judge-schedule-requires Inv-loop μ-loop
 judge-schedule-requires c κs = search needs
 
-enum-known-next : tie.Need-enum-known-next Inv-loop μ-loop
-enum-known-next c = search needs
+enum-known-judged : tie.Need-enum-known-judged Inv-loop μ-loop
+enum-known-judged c = search needs
+
+enum-told : tie.Need-enum-told Inv-loop μ-loop
+enum-told c = search needs
+
+progress-by-requires : tie.Need-progress-by-requires Inv-loop μ-loop
+progress-by-requires c κs = search needs
+
+returns : tie.Need-returns Inv-loop μ-loop
+returns c = sym (walk-stops _ _ _ _ _ (stops c)) ∙ c .before .before .before .before .before .loop .inv
 
 loop-less : tie.Need-loop-less Inv-loop μ-loop
 loop-less c = schedule-falls _ _ _ (goes c)
 
 loop-again : tie.Need-loop-again Inv-loop μ-loop
 loop-again c = walk-goes _ _ _ (schedule-falls _) _ _ (goes c) ∙ c .before .before .before .before .before .loop .inv
-
-enum-known-n : tie.Need-enum-known-n Inv-loop μ-loop
-enum-known-n c = search needs
-
-returns : tie.Need-returns Inv-loop μ-loop
-unfolding scheduleTurn
-returns c =
-    sym (walk-stops _ _ _ _ _ (rw (ne-eqb _ _ (c .before .before .before .before .loop-test .taken), ← c .before .before .before .judge-schedule .ensures, c .before .n .given .1))) ∙ c .before .before .before .before .before .loop .inv
 
 returns-2 : tie.Need-returns-2 Inv-loop μ-loop
 unfolding scheduleTurn
@@ -61,9 +70,10 @@ read-schedule-spec =
     μ-loop
     loop-holds
     judge-schedule-requires
-    enum-known-next
+    enum-known-judged
+    enum-told
+    progress-by-requires
+    returns
     loop-less
     loop-again
-    enum-known-n
-    returns
     returns-2)

@@ -1,4 +1,4 @@
--- Each arm is given which way the record was judged.
+-- A record that is not good is refused; a good one is given its numbers.
 use mathlib.Core.Path.{sym, _∙_}
 use borrow.Author.Needs.{needs}
 use Rattle.files.specs.Setup.{turnOf}
@@ -8,31 +8,35 @@ use Rattle.files.proofs.turn.Tie as tie
 judge-setup-requires : tie.Need-judge-setup-requires
 judge-setup-requires c κs = search needs
 
-enum-known-tag : tie.Need-enum-known-tag
-enum-known-tag c = search needs
+enum-known-judged : tie.Need-enum-known-judged
+enum-known-judged c = search needs
 
-good-turn-requires : tie.Need-good-turn-requires
-good-turn-requires c κs =
-    (c .before .before .before .before .before .pre, sym (c .before .before .before .judge-setup .ensures) ∙ c .before .tag .given .1)
+enum-told : tie.Need-enum-told
+enum-told c = search needs
 
-enum-known-n : tie.Need-enum-known-n
-enum-known-n c = search needs
+progress-by-requires : tie.Need-progress-by-requires
+progress-by-requires c κs = search needs
 
 returns : tie.Need-returns
 unfolding turnOf
-returns c = rw (← c .before .before .before .before .judge-setup .ensures, c .before .before .tag .given .1) (c .good-turn .ensures)
+returns c = rw (c .progress-by .ensures, ← c .before .before .before .judge-setup .ensures, c .before .enum-told .given .1)
+
+good-turn-requires : tie.Need-good-turn-requires
+good-turn-requires c κs =
+    (c .before .before .before .before .before .pre, sym (c .before .before .before .judge-setup .ensures) ∙ c .before .judged .given .1)
 
 returns-2 : tie.Need-returns-2
 unfolding turnOf
-returns-2 c = rw (← c .before .before .before .judge-setup .ensures, c .before .n .given .1)
+returns-2 c = rw (← c .before .before .before .before .judge-setup .ensures, c .before .before .judged .given .1) (c .good-turn .ensures)
 
 pub turn-spec : {M : Type 1} → statement M
 turn-spec =
     tie.close
     (tie.spec
     judge-setup-requires
-    enum-known-tag
-    good-turn-requires
-    enum-known-n
+    enum-known-judged
+    enum-told
+    progress-by-requires
     returns
+    good-turn-requires
     returns-2)
