@@ -18,7 +18,7 @@ KIT = "/opt/rattle/rattle"
 WORD = re.compile(r"[A-Za-z][\w'\-]*")
 LIBRARY = {"length", "get_or", "set", "drop", "take", "replicate", "map"}
 # A lemma about the count of reads that TXN gives, which has its definition's name in snake case.
-ALSO = {"read_count": "read_count_lem", "nITEM": "n_item", "nSTEP": "n_step", "nTXN": "n_txn"}
+ALSO = {"read_count": "read_count_lem"}
 
 
 def read(path):
@@ -51,7 +51,8 @@ def snake(name):
 
 
 def is_ours(word):
-    return word[0].islower() and ("-" in word or re.search(r"[a-z0-9][A-Z]", word)) and not re.match(r"(the|loop|then|else|in|if|args|new)-", word)
+    # `\nSTEP` stands in a string
+    return word not in ("nITEM", "nSTEP", "nTXN") and word[0].islower() and ("-" in word or re.search(r"[a-z0-9][A-Z]", word)) and not re.match(r"(the|loop|then|else|in|if|args|new)-", word)
 
 
 def turned_words(antt):

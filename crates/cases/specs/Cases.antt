@@ -79,7 +79,7 @@ cases =
     -- A: certifying waits for a conflicting one in the queue
     record {
       file = "01000800000064000000C8 020009010000000000000001 020009010000000000000002 0300080100010100000007 0300080101010000000009 0F0000 100003000000 100003010001 11000100 11000101 12000100 12000100 150000";
-      gives = "STEP 0 0 1 100\n_step 1 0 1 200\n_step 2 0 1 0\n_step 3 0 2 0\n_step 4 0 0 1\n_step 5 27 0 0\n_step 6 0 9 0\n_txn 0 1 1\n_txn 1 2 2\n_item 0 0 1 100\n_item 1 1 2 7\n";
+      gives = "STEP 0 0 1 100\nSTEP 1 0 1 200\nSTEP 2 0 1 0\nSTEP 3 0 2 0\nSTEP 4 0 0 1\nSTEP 5 27 0 0\nSTEP 6 0 9 0\nTXN 0 1 1\nTXN 1 2 2\nITEM 0 0 1 100\nITEM 1 1 2 7\n";
       closed = (1 ∷ 1 ∷ []) ∷ (2 ∷ 2 ∷ []) ∷ [];
     }
     -- B: an empty file
@@ -115,31 +115,31 @@ cases =
     -- G: document 002; t0 aborts and t1 commits at all three sites
     ∷ record {
       file = "01000C0000000A000000140000001E 020009010000000000000003 020009010000000000000006 020009010000000000000005 03000D010002000000000B0100000015 03000D010002000000000C020000001F 0F0000 100003000000 100003010002 11000101 11000100 150000";
-      gives = "STEP 0 0 1 10\n_step 1 0 1 10\n_step 2 0 1 0\n_step 3 0 2 0\n_step 4 0 20 0\n_txn 0 2 2\n_txn 1 1 1\n_item 0 0 2 12\n_item 0 1 1 20\n_item 1 1 1 20\n_item 1 2 2 31\n_item 2 0 2 12\n_item 2 2 2 31\n";
+      gives = "STEP 0 0 1 10\nSTEP 1 0 1 10\nSTEP 2 0 1 0\nSTEP 3 0 2 0\nSTEP 4 0 20 0\nTXN 0 2 2\nTXN 1 1 1\nITEM 0 0 2 12\nITEM 0 1 1 20\nITEM 1 1 1 20\nITEM 1 2 2 31\nITEM 2 0 2 12\nITEM 2 2 2 31\n";
       closed = (2 ∷ 2 ∷ 2 ∷ []) ∷ (1 ∷ 1 ∷ 1 ∷ []) ∷ [];
     }
     -- H: the second of two blind writes is not at the head
     ∷ record {
       file = "01000400000005 020009010000000000000001 03000700010000000006 03000700010000000007 0F0000 11000100 11000101 12000100 12000100 1400020100";
-      gives = "STEP 0 0 1 0\n_step 1 0 2 0\n_step 2 0 0 0\n_step 3 0 1 0\n_step 4 31 0 0\n_txn 0 1 0\n_txn 1 2 0\n_item 0 0 1 5\n";
+      gives = "STEP 0 0 1 0\nSTEP 1 0 2 0\nSTEP 2 0 0 0\nSTEP 3 0 1 0\nSTEP 4 31 0 0\nTXN 0 1 0\nTXN 1 2 0\nITEM 0 0 1 5\n";
       closed = (0 ∷ []) ∷ (0 ∷ []) ∷ [];
     }
     -- I: an abort closes anywhere, while t0 before it waits for a vote
     ∷ record {
       file = "01000C0000000A000000140000001E 020009010000000000000005 020009010000000000000002 030008010101000000000B 030003010200 0300070001020000001F 0F0000 100003010000 11000102 12000100 1400020200 100003000001 11000100 11000101 12000100 12000100 1400020100 1400020000";
-      gives = "STEP 0 0 1 30\n_step 1 0 1 0\n_step 2 0 2 0\n_step 3 0 1 0\n_step 4 0 1 20\n_step 5 0 2 0\n_step 6 0 3 0\n_step 7 0 0 0\n_step 8 0 1 2\n_step 9 0 2 0\n_step 10 30 0 0\n_txn 0 2 0\n_txn 1 3 2\n_txn 2 1 1\n_item 0 0 1 10\n_item 0 2 2 31\n_item 1 1 1 20\n";
+      gives = "STEP 0 0 1 30\nSTEP 1 0 1 0\nSTEP 2 0 2 0\nSTEP 3 0 1 0\nSTEP 4 0 1 20\nSTEP 5 0 2 0\nSTEP 6 0 3 0\nSTEP 7 0 0 0\nSTEP 8 0 1 2\nSTEP 9 0 2 0\nSTEP 10 30 0 0\nTXN 0 2 0\nTXN 1 3 2\nTXN 2 1 1\nITEM 0 0 1 10\nITEM 0 2 2 31\nITEM 1 1 1 20\n";
       closed = (0 ∷ 0 ∷ []) ∷ (2 ∷ 0 ∷ []) ∷ (1 ∷ 0 ∷ []) ∷ [];
     }
     -- J: a second SUBMIT
     ∷ record {
       file = "01000400000005 020009010000000000000001 03000700010000000006 0F0000 11000100 11000100";
-      gives = "STEP 0 0 1 0\n_step 1 24 0 0\n_txn 0 1 0\n_item 0 0 1 5\n";
+      gives = "STEP 0 0 1 0\nSTEP 1 24 0 0\nTXN 0 1 0\nITEM 0 0 1 5\n";
       closed = (0 ∷ []) ∷ [];
     }
     -- K: DELIVER with nothing submitted
     ∷ record {
       file = "01000400000005 020009010000000000000001 0F0000 12000100";
-      gives = "STEP 0 26 0 0\n_item 0 0 1 5\n";
+      gives = "STEP 0 26 0 0\nITEM 0 0 1 5\n";
       closed = [];
     }
     ∷ []

@@ -1,1 +1,2 @@
 // No code: the lettered cases, proved by computing the definitions.
+#![tactic(auto)]

@@ -1,4 +1,6 @@
 // Drives the lettered cases' steps through the machine, and prints each answer's three numbers.
+#![tactic(auto)]
+
 use libc::STDOUT_FILENO;
 use machine::State;
 use steps::{Answer, Step};

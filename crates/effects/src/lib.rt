@@ -1,4 +1,6 @@
 // What an accepted step answers and stores, in lent parts of a state.
+#![tactic(auto)]
+
 ghost use Rattle.std.specs.Prelude.{◌≡◌, true, cond, ◌+◌, ◌*◌, ◌<◌, eqb, get_or, set, length};
 ghost use Rattle.keys.specs.Keys.{member, adding};
 ghost use Rattle.tables.specs.declared.Tables.{Tables};

@@ -1,4 +1,6 @@
 // Files: where setup ends; the setup read into tables, the schedule into steps; the part handed back with a refusal.
+#![tactic(auto)]
+
 ghost use Rattle.std.specs.Prelude.{◌≡◌, ◌+◌, ◌<◌, ◌≤◌, length, drop};
 ghost use Rattle.tables.specs.Empty.{no_tables};
 ghost use Rattle.tables.specs.Judge.{group_refusal, txn_refusal};
@@ -26,7 +28,7 @@ const END: u8 = 0x0F;
 const LIMIT: usize = 60000;
 
 // How far a part of the file was read: on from a position, to its end, or refused for the record at a position.
-#[derive(Drop)]
+#[derive(Clone, Copy)]
 pub enum Progress {
     On(usize),
     Ready,
@@ -34,27 +36,27 @@ pub enum Progress {
 }
 
 // A setup's reading, with the tables read so far.
-#[derive(Drop)]
+#[derive(Clone, Copy)]
 pub struct Setup {
     pub progress: Progress,
     pub tables: Tables,
 }
 
 // Where a record stands: in which part of the file, and at which byte of it.
-#[derive(Drop)]
+#[derive(Clone, Copy)]
 pub enum Where {
     InSetup(usize),
     InSchedule(usize),
 }
 
-#[derive(Drop)]
+#[derive(Clone, Copy)]
 pub enum Outcome {
     Fine,
     Refused { number: u8, at: Where },
 }
 
 // A file's reading, with the tables read.
-#[derive(Drop)]
+#[derive(Clone, Copy)]
 pub struct File {
     pub outcome: Outcome,
     pub tables: Tables,

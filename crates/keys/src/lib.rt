@@ -1,4 +1,6 @@
 // Sets as the bits of one number: of keys in 64 bits, of sites in 16.
+#![tactic(auto)]
+
 ghost use Rattle.std.specs.Prelude.{◌≡◌, false, ◌||◌, cond, ℕ, ◌<◌, eqb};
 ghost use Rattle.keys.specs.Keys.{member, within, adding, meeting, including};
 

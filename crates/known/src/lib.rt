@@ -1,4 +1,6 @@
 // What SETTLE knows: at first, after each of its steps, and CARRY after CARRY.
+#![tactic(auto)]
+
 ghost use Rattle.std.specs.Prelude.{◌≡◌, ◌⊎◌, List, ℕ, ◌+◌, ◌≤◌, ◌<◌, eqb, get_or, length};
 ghost use Rattle.order.specs.Order.{Ordered};
 ghost use Rattle.tables.specs.declared.Tables.{Tables};

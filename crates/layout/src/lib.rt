@@ -1,4 +1,6 @@
 // The parts of a state in arrays that can be lent: numbers (versions, values, read versions, read values, places), flags (recorded, delivered), marks (closed, cast).
+#![tactic(auto)]
+
 ghost use Rattle.std.specs.Prelude.{◌≡◌, ◌⊎◌, true, false, ℕ, ◌+◌, ◌≤◌, ◌<◌, get_or, set, length};
 ghost use Rattle.layout.specs.Layout.{versions_from, values_from, the_versions, the_values, the_read_versions, the_read_values, the_places, the_recorded, the_delivered, marks_from, the_closed, the_cast};
 

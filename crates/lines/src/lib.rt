@@ -1,4 +1,6 @@
 // The lines of a listing: one for each step, transaction and held key.
+#![tactic(auto)]
+
 ghost use Rattle.std.specs.Prelude.{◌≡◌, true, cond, [], ◌∷◌, ◌+◌, ◌*◌, ◌^◌, ◌≤◌, ◌<◌};
 ghost use Rattle.machine.specs.Usable.{usable};
 ghost use Rattle.steps.specs.Answers.{numbers_of};

@@ -1,4 +1,6 @@
 // The listing of a file: its schedule run from the fresh state of its tables, a line for each step, transaction and held key.
+#![tactic(auto)]
+
 ghost use Rattle.std.specs.Prelude.{◌≡◌, true, ◌+◌, ◌*◌, ◌^◌, ◌≤◌, ◌<◌, length};
 ghost use Rattle.files.specs.Schedule.{steps_of};
 ghost use Rattle.lines.specs.Lines.{step_lines};
@@ -13,7 +15,7 @@ use records::Record;
 use tables::Tables;
 
 // A run's end: the state, and the place after its lines.
-#[derive(Drop)]
+#[derive(Clone, Copy)]
 pub struct Ran {
     pub state: State,
     pub next: usize,

@@ -92,9 +92,9 @@ step_usable st x z h = by (eqb (refusal st x) 0) refl
 -- ---- fresh
 
 -- of a row that no judgement refuses
-row_fits : (keys : ℕ) (row : List ℕ) (t n : ℕ) → n ≤ 8 → present row t n keys ≡ true → twice row t n ≡ false → row_fits keys row t n ≡ true
+row_fits_lem : (keys : ℕ) (row : List ℕ) (t n : ℕ) → n ≤ 8 → present row t n keys ≡ true → twice row t n ≡ false → row_fits keys row t n ≡ true
 unfolding row_fits
-row_fits keys row t n l p q = rw (le-leb n 8 l, p, q)
+row_fits_lem keys row t n l p q = rw (le-leb n 8 l, p, q)
 
 txn_fits_lem : (T : Tables) (t : ℕ) → txn_refusal T t ≡ 0 → (t < 128) × (txn_fits T.keys T.reads T.nreads T.writes T.nwrites t ≡ true)
 unfolding txn_refusal key_refusal txn_fits
@@ -106,7 +106,7 @@ txn_fits_lem T t h =
     let (p, d) = kept (pr && pw) (twice T.reads t (read_count T t) || twice T.writes t (write_count T t)) k in
     let (a, b) = and-true pr pw p in
     let (x, y) = or-false (twice T.reads t (read_count T t)) (twice T.writes t (write_count T t)) d in
-    (low c, and_put _ _ (row_fits T.keys T.reads t (read_count T t) r a x) (row_fits T.keys T.writes t (write_count T t) w b y))
+    (low c, and_put _ _ (row_fits_lem T.keys T.reads t (read_count T t) r a x) (row_fits_lem T.keys T.writes t (write_count T t) w b y))
   where
     kept : (p q : Bool) → ◌≡◌ {A = ℕ} (cond p (cond q 6 0) 5) 0 → (p ≡ true) × (q ≡ false)
     kept true true e = absurd (omega arith)

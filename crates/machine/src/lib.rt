@@ -1,4 +1,6 @@
 // The machine: the state of all sites, the steps of the protocol and their answers.
+#![tactic(auto)]
+
 ghost use Rattle.std.specs.Prelude.{◌≡◌, true, ◌≤◌, ◌<◌, get_or};
 ghost use Rattle.tables.specs.declared.Tables.{Tables};
 ghost use Rattle.layout.specs.Layout.{the_versions, the_values, the_read_versions, the_read_values, the_places};
@@ -17,7 +19,7 @@ use search::Todo;
 use steps::{Answer, Place, Step, Version};
 use tables::{Tables, wide};
 
-#[derive(Drop)]
+#[derive(Clone, Copy)]
 pub struct State {
     pub tables: Tables,
     // Of site s and key k, at s * 64 + k: the replica's version and value.
@@ -39,14 +41,14 @@ pub struct State {
 }
 
 // An answer with the state after the step.
-#[derive(Drop)]
+#[derive(Clone, Copy)]
 pub struct Stepped {
     pub answer: Answer,
     pub next: State,
 }
 
 // The reader's number for the tables, and the state made of them.
-#[derive(Drop)]
+#[derive(Clone, Copy)]
 pub struct Fresh {
     pub number: u8,
     pub state: State,

@@ -69,19 +69,22 @@ pub data Submits (T : Table) (txns : ℕ) (v : View) (n : ℕ) : View → ℕ �
 module _ (T : Table) (txns : ℕ) where
   pub submits : (v w : View) (n m : ℕ) → Inv T v → Counted T txns v n → Submits T txns v n w m → Orders T v w × Counted T txns w m
   unfolding place_v
-  submits v w n m i g (submit t l e r) = (
-    place t (suc n) (record {
-      fresh = e;
-      positive = omega arith;
-      free = λ u q. omega (arith, g.most u);
-      ready = r;
-      late = λ s u d c. omega (arith, g.most u);
-    }),
-    record {
-      most = λ u. elim (look1 v.order.place t (suc n) u) [ inl q ↦ omega (arith, q.1) | inr q ↦ omega (arith, q.1, g.most u) ];
-      low = λ u h. elim (look1 v.order.place t (suc n) u) [ inl q ↦ omega (arith, q.0) | inr q ↦ g.low u (omega (arith, q.1)) ];
-    },
-  )
+  submits v w n m i g x = at_submit v n w m x i g
+    where
+      at_submit : (v : View) (n : ℕ) (w : View) (m : ℕ) → Submits T txns v n w m → Inv T v → Counted T txns v n → Orders T v w × Counted T txns w m
+      at_submit v n w m (submit t l e r) i g = (
+        place t (suc n) (record {
+          fresh = e;
+          positive = omega arith;
+          free = λ u q. omega (arith, g.most u);
+          ready = r;
+          late = λ s u d c. omega (arith, g.most u);
+        }),
+        record {
+          most = λ u. elim (look1 v.order.place t (suc n) u) [ inl q ↦ omega (arith, q.1) | inr q ↦ omega (arith, q.1, g.most u) ];
+          low = λ u h. elim (look1 v.order.place t (suc n) u) [ inl q ↦ omega (arith, q.0) | inr q ↦ g.low u (omega (arith, q.1)) ];
+        },
+      )
 
   -- it has no steps of its own, and DELIVER takes the next
   unfoldable pub counter : Ordering T txns

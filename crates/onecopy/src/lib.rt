@@ -1,1 +1,2 @@
 // No code: the single copy, and what holds of every run.
+#![tactic(auto)]

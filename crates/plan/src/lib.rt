@@ -1,4 +1,6 @@
 // The plan of the tables: one array that can be lent, with the sets of keys and sites by which the protocol's questions are answered.
+#![tactic(auto)]
+
 ghost use Rattle.std.specs.Prelude.{◌≡◌, ◌&&◌, true, ℕ, ◌+◌, ◌*◌, ◌≤◌, ◌<◌, ◌⊎◌, ltb, get_or};
 ghost use Rattle.keys.specs.Keys.{member};
 ghost use Rattle.tables.specs.Lists.{row_at, in_row, conflict};

@@ -1,4 +1,6 @@
 // Reads a file from standard input, one byte past the limit, and writes its listing or the line of its refusal.
+#![tactic(auto)]
+
 ghost use Rattle.std.specs.Prelude.{◌≡◌, length};
 
 use libc::{STDIN_FILENO, STDOUT_FILENO};

@@ -1,4 +1,6 @@
 // The queue of a site: what waits to enter it, what is in it, who is at its head and who is blocked.
+#![tactic(auto)]
+
 ghost use Rattle.std.specs.Prelude.{◌≡◌, false, ◌&&◌, ◌||◌, cond, ◌+◌, ◌≤◌, ◌<◌, eqb, ltb};
 ghost use Rattle.queues.specs.Queue.{queued_in, precedes, head_in, waits, submitted_in, next_of, blocked_of};
 ghost use Rattle.tables.specs.Concern.{concerns};
@@ -30,7 +32,7 @@ pub fn is_waiting<'a>(
 }
 
 // A transaction found, 128 for none, with its place.
-#[derive(Drop)]
+#[derive(Clone, Copy)]
 pub struct Found {
     pub t: u8,
     pub place: u32,

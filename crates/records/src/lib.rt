@@ -1,4 +1,6 @@
 // Numbers and rows of them; records of a tag, a two-byte length and a body: their reader, the length rule of each tag, the first judgement.
+#![tactic(auto)]
+
 ghost use Rattle.std.specs.Prelude.{◌≡◌, ◌+◌, ◌*◌, ◌^◌, ◌<◌, ◌≤◌, length, get_or};
 ghost use Rattle.records.specs.Number.{number, row};
 ghost use Rattle.records.specs.Record.{record_at};
@@ -6,7 +8,7 @@ ghost use Rattle.records.specs.Rule.{rule_of, values_fit, pairs_fit, fits};
 ghost use Rattle.records.specs.Judge.{judge_by};
 
 // What stands at a position.
-#[derive(Drop)]
+#[derive(Clone, Copy)]
 pub enum Record {
     // A whole record: its body is the len bytes from start; next is past it.
     Whole {
@@ -22,7 +24,7 @@ pub enum Record {
 }
 
 // A record that may stand where it does and is as long as it must be, or the refusal.
-#[derive(Drop)]
+#[derive(Clone, Copy)]
 pub enum Judged {
     Good {
         tag: u8,
@@ -147,7 +149,7 @@ fn record_at(s: &[u8], at: usize) -> Record
 }
 
 // The reader of records: the file and its own position.
-#[derive(Drop)]
+#[derive(Clone, Copy)]
 pub struct Reader<'a> {
     pub src: &'a [u8],
     pub at: usize,

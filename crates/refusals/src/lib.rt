@@ -1,4 +1,6 @@
 // The number that refuses a step, 0 where it is accepted, asked of the plan of the tables and of lent parts of a state.
+#![tactic(auto)]
+
 ghost use Rattle.std.specs.Prelude.{◌≡◌, Bool, List, ◌<◌};
 ghost use Rattle.tables.specs.declared.Tables.{Tables};
 ghost use Rattle.plan.specs.Plan.{txns_of, Laid, Plan};

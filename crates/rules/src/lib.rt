@@ -1,4 +1,6 @@
 // Votes, verdicts and room for a commit, asked of the plan of the tables and of lent parts of a state; and the states that a step can run on.
+#![tactic(auto)]
+
 ghost use Rattle.std.specs.Prelude.{◌≡◌, false, ◌&&◌, ◌||◌, not, cond, ℕ, ◌+◌, ◌*◌, ◌≤◌, ◌<◌, eqb, get_or, set, length};
 ghost use Rattle.bounded.specs.Bounded.{all_below};
 ghost use Rattle.keys.specs.Keys.{member, adding};

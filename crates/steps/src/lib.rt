@@ -1,15 +1,17 @@
 // What can be asked of the machine and what it answers.
+#![tactic(auto)]
+
 ghost use Rattle.std.specs.Prelude.{◌≡◌};
 ghost use Rattle.steps.specs.Answers.{numbers, numbers_of};
 
 // How often a key was written, the first value counting as one; and a transaction's place in the order, 0 for none.
-#[derive(Drop)]
+#[derive(Clone, Copy)]
 pub struct Version(pub u32);
 
-#[derive(Drop)]
+#[derive(Clone, Copy)]
 pub struct Place(pub u32);
 
-#[derive(Drop)]
+#[derive(Clone, Copy)]
 pub enum Step {
     Read { t: u8, i: u8, s: u8 },
     Submit(u8),
@@ -19,7 +21,7 @@ pub enum Step {
     Settle,
 }
 
-#[derive(Drop)]
+#[derive(Clone, Copy)]
 pub enum Answer {
     Read(Version, u32),
     Submitted(Place),
@@ -31,7 +33,7 @@ pub enum Answer {
 }
 
 // An answer as it is listed.
-#[derive(Drop)]
+#[derive(Clone, Copy)]
 pub struct Numbers {
     pub code: u32,
     pub first: u32,

@@ -1,4 +1,6 @@
 // The tables of a setup: keys with their first values, groups of sites, transactions; and the questions asked of them.
+#![tactic(auto)]
+
 ghost use Rattle.std.specs.Prelude.{◌≡◌, ◌*◌, ◌≤◌, ◌<◌, cond};
 ghost use Rattle.tables.specs.Empty.{no_tables};
 ghost use Rattle.tables.specs.Lists.{in_row, twice, present, read_count, write_count};
@@ -8,7 +10,7 @@ ghost use Rattle.keys.specs.Keys.{member};
 ghost use Rattle.tables.specs.First.{first_at};
 ghost use Rattle.tables.specs.Judge.{keys_refusal, size_refusal, group_refusal, count_refusal, key_refusal, txn_refusal, some_group, end_refusal, judge};
 
-#[derive(Drop)]
+#[derive(Clone, Copy)]
 pub struct Tables {
     // Keys 0 to keys - 1, and the first value of each.
     pub keys: u8,

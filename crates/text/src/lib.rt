@@ -1,5 +1,7 @@
 // Lines of a word and decimal numbers, written into a lent buffer from a place on. A byte past the
 // buffer's end is dropped, and the answer is the next place all the same.
+#![tactic(auto)]
+
 ghost use Rattle.std.specs.Prelude.{◌≡◌, [], ◌∷◌, ◌+◌, ◌*◌, ◌^◌, ◌≤◌, ◌<◌, length};
 ghost use Rattle.text.specs.Text.{digits_of, line_of};
 ghost use Rattle.text.specs.Wrote.{Wrote};

@@ -1,4 +1,6 @@
 // Lists the stored files on standard input, each after its length in two bytes, one listing after the other.
+#![tactic(auto)]
+
 ghost use Rattle.std.specs.Prelude.{◌≡◌, ◌≤◌, length};
 
 use libc::{STDIN_FILENO, STDOUT_FILENO};
