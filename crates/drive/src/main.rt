@@ -1,27 +1,22 @@
 // Drives the lettered cases' steps through the machine, and prints each answer's three numbers.
 #![tactic(auto)]
 
-use libc::STDOUT_FILENO;
 use machine::State;
+use std::io;
 use steps::{Answer, Step};
 use tables::Tables;
 
-fn say(a: Answer) {
+fn say(rt: &HostRuntime, a: Answer) -> io::Result<()> {
     let n = steps::numbers_of(a);
-    io::print_decimal(STDOUT_FILENO, n.code as u64);
-    io::write_all(STDOUT_FILENO, b" ");
-    io::print_decimal(STDOUT_FILENO, n.first as u64);
-    io::write_all(STDOUT_FILENO, b" ");
-    io::print_decimal(STDOUT_FILENO, n.second as u64);
-    io::write_all(STDOUT_FILENO, b"\n");
+    println!(rt; "{} {} {}", n.code, n.first, n.second)
 }
 
-fn go(st: State, x: Step) -> State {
+fn go(rt: &HostRuntime, st: State, x: Step) -> io::Result<State> {
     let r = st.step(x);
     let answer = r.answer;
     let next = r.next;
-    say(answer);
-    next
+    say(rt, answer)?;
+    Ok(next)
 }
 
 // Keys 0 to 2 with the first values 10, 20, 30.
@@ -35,7 +30,7 @@ fn keys() -> Tables {
 }
 
 // Case G: the sites hold {0, 1}, {1, 2} and {0, 2}; both transactions read key 0 and write it and another.
-fn case_g() {
+fn case_g(rt: &HostRuntime) -> io::Result<()> {
     let mut t = keys();
     t.groups = 3;
     t.sizes[0] = 1;
@@ -57,16 +52,17 @@ fn case_g() {
     t.gives[9] = 31;
     let fresh = State::fresh(t);
     let mut st = fresh.state;
-    st = go(st, Step::Read { t: 0, i: 0, s: 0 });
-    st = go(st, Step::Read { t: 1, i: 0, s: 2 });
-    st = go(st, Step::Submit(1));
-    st = go(st, Step::Submit(0));
-    st = go(st, Step::Settle);
-    st = go(st, Step::Close { t: 0, s: 1 });
+    st = go(rt, st, Step::Read { t: 0, i: 0, s: 0 })?;
+    st = go(rt, st, Step::Read { t: 1, i: 0, s: 2 })?;
+    st = go(rt, st, Step::Submit(1))?;
+    st = go(rt, st, Step::Submit(0))?;
+    st = go(rt, st, Step::Settle)?;
+    go(rt, st, Step::Close { t: 0, s: 1 })?;
+    Ok(())
 }
 
 // Case I: site 0 holds keys 0 and 2, site 1 holds 1; t0 reads 1 and writes 0, t1 reads 2, t2 writes 2.
-fn case_i() {
+fn case_i(rt: &HostRuntime) -> io::Result<()> {
     let mut t = keys();
     t.groups = 2;
     t.sizes[0] = 1;
@@ -85,21 +81,22 @@ fn case_i() {
     t.gives[16] = 31;
     let fresh = State::fresh(t);
     let mut st = fresh.state;
-    st = go(st, Step::Read { t: 1, i: 0, s: 0 });
-    st = go(st, Step::Submit(2));
-    st = go(st, Step::Deliver(0));
-    st = go(st, Step::Close { t: 2, s: 0 });
-    st = go(st, Step::Read { t: 0, i: 0, s: 1 });
-    st = go(st, Step::Submit(0));
-    st = go(st, Step::Submit(1));
-    st = go(st, Step::Deliver(0));
-    st = go(st, Step::Deliver(0));
-    st = go(st, Step::Close { t: 1, s: 0 });
-    st = go(st, Step::Close { t: 0, s: 0 });
-    st = go(st, Step::Settle);
+    st = go(rt, st, Step::Read { t: 1, i: 0, s: 0 })?;
+    st = go(rt, st, Step::Submit(2))?;
+    st = go(rt, st, Step::Deliver(0))?;
+    st = go(rt, st, Step::Close { t: 2, s: 0 })?;
+    st = go(rt, st, Step::Read { t: 0, i: 0, s: 1 })?;
+    st = go(rt, st, Step::Submit(0))?;
+    st = go(rt, st, Step::Submit(1))?;
+    st = go(rt, st, Step::Deliver(0))?;
+    st = go(rt, st, Step::Deliver(0))?;
+    st = go(rt, st, Step::Close { t: 1, s: 0 })?;
+    st = go(rt, st, Step::Close { t: 0, s: 0 })?;
+    go(rt, st, Step::Settle)?;
+    Ok(())
 }
 
-fn main() {
-    case_g();
-    case_i();
+fn main(rt: HostRuntime) -> io::Result<()> {
+    case_g(&rt)?;
+    case_i(&rt)
 }

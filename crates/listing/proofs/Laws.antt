@@ -3,13 +3,10 @@
 use Prim.Native.Nat.{ℕ, zero, suc, ◌+◌, ◌-◌, ◌*◌, ◌≤◌}
 use mathlib.Core.Bool.{Bool, true, false}
 use mathlib.Core.List.{List, [], ◌∷◌, ◌++◌, append-nil, append_assoc}
-use mathlib.Core.Logic.{inl, inr}
 use mathlib.Core.Path.{◌≡◌, refl, ◌∙◌}
 use native.Mathlib.Numerals.{add-one}
 use native.Mathlib.Omega.{arith}
 use lib.ListN.{length}
-use types.Run.{OneOf}
-use denote.Enum.Declared.{tag_of}
 use Rattle.files.specs.Schedule.{step_by, steps_from, steps_of}
 use Rattle.lines.specs.Lines.{step_line, step_lines}
 use Rattle.bounded.proofs.Truth.{clash}
@@ -22,7 +19,6 @@ use Rattle.records.specs.Record.{record_at}
 use Rattle.records.specs.declared.Record.{Record}
 use Rattle.records.specs.declared.Record.TheVariants.{Whole, Short, Cut}
 use Rattle.records.proofs.Laws.{Lies, whole_lies}
-use Rattle.records.specs.contracts.Record as R
 use Rattle.search.specs.declared.Todo.TheVariants.{Nothing}
 use Rattle.machine.specs.Usable.{usable}
 use Rattle.machine.specs.Settle.{todo}
@@ -40,10 +36,11 @@ unfolding steps_from
 steps_go k s at tag start len next e = rw (e, steps_from)
 
 -- the else branch of `let Record::Whole { .. }`
-steps_end : (k : ℕ) (s : List ℕ) (at : ℕ) (r : Record) → r ≡ record_at s at → OneOf (1 ∷ 2 ∷ []) (tag_of R.the_type r) → steps_from k s at ≡ []
+steps_end : (k : ℕ) (s : List ℕ) (at : ℕ) (r : Record) → r ≡ record_at s at
+    → ((tag start len next : ℕ) → r ≡ Whole tag start len next → ⊥) → steps_from k s at ≡ []
 unfolding steps_from
 steps_end zero s at r e h = refl
-steps_end (suc k) s at (Whole tag start len next) e h = absurd (elim h [ inl q ↦ omega arith | inr q ↦ omega arith ])
+steps_end (suc k) s at (Whole tag start len next) e h = absurd (h tag start len next refl)
 steps_end (suc k) s at (Short tag) e h = rw (← e, steps_from)
 steps_end (suc k) s at Cut e h = rw (← e, steps_from)
 
@@ -123,7 +120,8 @@ module _ {s old : List ℕ} {at : ℕ} {st₀ : State} where
       }
 
   -- no step more: st₁ is the state that was laid out, st' the one given back
-  pub ends : {out : List ℕ} {st st' st₁ : State} {idle : Bool} {next i pos : ℕ} → st₀ ≡ st₁ → st' ≡ st → Running s old at st₀ out st idle next i pos → (r : Record) → r ≡ record_at s pos → OneOf (1 ∷ 2 ∷ []) (tag_of R.the_type r)
+  pub ends : {out : List ℕ} {st st' st₁ : State} {idle : Bool} {next i pos : ℕ} → st₀ ≡ st₁ → st' ≡ st → Running s old at st₀ out st idle next i pos
+      → (r : Record) → r ≡ record_at s pos → ((tag start len after : ℕ) → r ≡ Whole tag start len after → ⊥)
       → (st' ≡ end_of st₁ (steps_of s)) × (Wrote old at out next (step_lines 0 (answers_of st₁ (steps_of s))) × (next ≤ at + 12 * length s))
   unfolding step_lines answers_of end_of
   ends {out} {st} {st'} {st₁} {idle} {next} {i} {pos} same given v r e h =

@@ -101,9 +101,8 @@ fn put_in_room(tables: Tables, schedule: &[u8], out: &mut [u8]) -> i64
     put_listing(tables, schedule, out) as i64
 }
 
-// The C caller's function: the listing's length, or minus the refusal's number with nothing written.
-#[unsafe(no_mangle)]
-pub extern "C" fn pstore_list(file: &[u8], out: &mut [u8]) -> i64
+// What the C caller is given: the listing's length, or minus the refusal's number with nothing written.
+pub fn pstore_list(file: &[u8], out: &mut [u8]) -> i64
     ensures value { result ≡ answer_of (in_room (length out.old) (listing_of file.now)) }
     ensures out_after { out.new ≡ left_of (in_room (length out.old) (listing_of file.now)) out.old }
 {

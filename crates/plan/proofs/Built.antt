@@ -49,7 +49,8 @@ pub record Narrow (T : Tables) : Type 0 where
   pub writes : (i : ℕ) → get_or T.writes i 0 < 256
   pub gives : (i : ℕ) → get_or T.gives i 0 < 2 ^ 32
 
-module _ (T : Tables) (fits : Fits T) (narrow : Narrow T) (low : (t i : ℕ) → t < T.txns → i < read_count T t → read_key T t i < 64) (l0 l1 l2 l3 l4 l5 l6 l7 l8 l9 : List ℕ) (g : Stages T l0 l1 l2 l3 l4 l5 l6 l7 l8 l9) where
+module _ (T : Tables) (fits : Fits T) (narrow : Narrow T) (low : (t i : ℕ) → t < T.txns → i < read_count T t → read_key T t i < 64)
+    (l0 l1 l2 l3 l4 l5 l6 l7 l8 l9 : List ℕ) (g : Stages T l0 l1 l2 l3 l4 l5 l6 l7 l8 l9) where
   -- what stands below a part is in the last list as it was before that part
   at8 : (j : ℕ) → j < 3536 → get_or l9 j 0 ≡ get_or l8 j 0
   at8 j h = g.writes.1 j (inr h)

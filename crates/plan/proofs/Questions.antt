@@ -32,7 +32,8 @@ module _ (T : Tables) (l : List ℕ) (p : Plan T l) (t : ℕ) (low : t < T.txns)
   pub plan_reads : (u b : ℕ) → u < T.txns → b ≡ write_set l u → meeting a b ≡ meets T.reads t (read_count T t) T.writes u (write_count T u)
   plan_reads u b h e = rows_meet a T.reads t (read_count T t) width_a reads_are b T.writes u (write_count T u) (λ k. ap (λ x. member x k) e ∙ p.write_sets u k h)
 
-  module _ (b : ℕ) (is_b : b ≡ write_set l t) (width_b : b < 2 ^ 64) (u : ℕ) (union : (k : ℕ) → member u k ≡ (member a k || member b k)) (s m : ℕ) (h : s < 16) (is_m : m ≡ site_set l s) where
+  module _ (b : ℕ) (is_b : b ≡ write_set l t) (width_b : b < 2 ^ 64) (u : ℕ) (union : (k : ℕ) → member u k ≡ (member a k || member b k))
+      (s m : ℕ) (h : s < 16) (is_m : m ≡ site_set l s) where
     -- what is in b
     writes_are : (k : ℕ) → member b k ≡ in_row T.writes t (write_count T t) k
     writes_are k = ap (λ x. member x k) is_b ∙ p.write_sets t k low

@@ -3,7 +3,8 @@
 
 ghost use Rattle.std.specs.Prelude.{◌≡◌, length};
 
-use libc::{STDIN_FILENO, STDOUT_FILENO};
+use std::io;
+use std::io::Write;
 
 // Room for the longest listing, made in a function of its own: main's proof is told its length.
 fn space() -> [u8; 774912]
@@ -12,10 +13,10 @@ fn space() -> [u8; 774912]
     [0; 774912]
 }
 
-fn main() {
+fn main(rt: HostRuntime) -> io::Result<()> {
     let mut file = [0u8; 60001];
-    let n = io::read_full(STDIN_FILENO, &mut file);
+    let n = input::read_full(&mut rt.stdin(), &mut file)?;
     let mut out = space();
     let k = listing::print(&file[..n], &mut out);
-    io::write_all(STDOUT_FILENO, &out[..k]);
+    rt.stdout().write_all(&out[..k])
 }

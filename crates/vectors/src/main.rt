@@ -3,7 +3,8 @@
 
 ghost use Rattle.std.specs.Prelude.{◌≡◌, ◌≤◌, length};
 
-use libc::{STDIN_FILENO, STDOUT_FILENO};
+use std::io;
+use std::io::Write;
 use tables::wide;
 
 // Room for the longest listing, made in a function of its own: its caller's proof is told its length.
@@ -21,25 +22,26 @@ fn file_space() -> [u8; 65535]
 }
 
 // The next n bytes, as a file.
-fn list_next(n: usize)
+fn list_next(rt: &HostRuntime, n: usize) -> io::Result<()>
     requires { n ≤ 65535 }
 {
     let mut file = file_space();
-    let k = io::read_full(STDIN_FILENO, &mut file[..n]);
+    let k = input::read_full(&mut rt.stdin(), &mut file[..n])?;
     let mut out = space();
     let end = listing::print(&file[..k], &mut out);
-    io::write_all(STDOUT_FILENO, &out[..end]);
+    rt.stdout().write_all(&out[..end])
 }
 
-fn main() {
+fn main(rt: HostRuntime) -> io::Result<()> {
     let mut count: u32 = 0;
     while count < 10000 {
         let mut head = [0u8; 2];
-        let got = io::read_full(STDIN_FILENO, &mut head);
+        let got = input::read_full(&mut rt.stdin(), &mut head)?;
         if got < 2 {
-            return;
+            return Ok(());
         }
-        list_next(wide(head[0]) * 256 + wide(head[1]));
+        list_next(&rt, wide(head[0]) * 256 + wide(head[1]))?;
         count += 1;
     }
+    Ok(())
 }

@@ -1,0 +1,18 @@
+use mathlib.Core.Path.{refl}
+use native.Mathlib.Omega.{arith}
+use lib.ListN.{length-set}
+use borrow.Author.Rules.{rules}
+use Rattle.plan.proofs.Filled.{filled_none, filled_more, filled_ends}
+use Rattle.plan.proofs.put_given.Goals as goal
+
+pub loop-i-init : goal.loop-i-init
+loop-i-init c = (omega arith, search rules, filled_none _ _ _)
+
+pub loop-i-preserved : goal.loop-i-preserved
+loop-i-preserved c = let i = c.loop-i.invariant in (omega arith, simp length-set i.1, filled_more _ _ _ _ _ _ (omega (arith, i.1)) i.2 refl)
+
+pub returns-clause-by_index : goal.returns-clause-by_index
+returns-clause-by_index c = (filled_ends _ 2384 _ 1024 1024 _ _ c.loop-i.invariant.2 (omega arith) (omega arith)).0
+
+pub returns-clause-by_index_2 : goal.returns-clause-by_index_2
+returns-clause-by_index_2 c = (filled_ends _ 2384 _ 1024 1024 _ _ c.loop-i.invariant.2 (omega arith) (omega arith)).1
