@@ -9,7 +9,7 @@ use Rattle.steps.specs.Answers.{numbers, numbers_of}
 use Rattle.steps.specs.declared.Step.{Step}
 use Rattle.steps.specs.declared.Step.TheVariants as step
 use Rattle.steps.specs.declared.Answer.{Answer}
-use Rattle.steps.specs.declared.Answer.TheVariants.{Read, Refused}
+use Rattle.steps.specs.declared.Answer.TheVariants.{Refused}
 use Rattle.machine.specs.Usable.{usable}
 use Rattle.machine.specs.Refusals.{refusal}
 use Rattle.machine.specs.Effects.{read_done, submit_done, deliver_done, carry_done, close_done}

@@ -124,3 +124,7 @@ ranged_set l i v g h = record {
         | inr y ↦ elim y [ inl x ↦ absurd (omega arith) | inr y ↦ elim y [ inl x ↦ absurd (omega arith) | inr x ↦ absurd (omega arith) ] ]
       ]
     ]
+
+-- so where it is stored in l, which is m then
+pub ranged_put : (l m : List ℕ) (i v : ℕ) → Ranged l → (m ≡ set l i v) × (i < length l) → (v ≤ 128) ⊎ ((i < 32) ⊎ ((80 ≤ i) ⊎ ((48 ≤ i) × (i < 64)))) → Ranged m
+ranged_put l m i v g e h = rw e.0 (ranged_set l i v g h)
