@@ -1,7 +1,7 @@
 -- Bytes as they are written down: a file in hexadecimal with spaces between records, a listing as text.
 use Rattle.std.specs.Prelude.{ℕ, ◌+◌, ◌-◌, ◌*◌, Bool, true, false, ◌&&◌, not, cond, List, [] as []ᴸ, ◌∷◌ as ◌∷ᴸ◌, eqb, leb}
 use Prim.Native.String.{String, [], ◌∷◌}
-use Prim.Native.Char.{Char, code}
+use Prim.Native.Char.{code}
 
 -- the characters' numbers
 unfoldable pub text : String → List ℕ

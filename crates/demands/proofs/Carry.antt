@@ -23,7 +23,7 @@ use Rattle.onecopy.proofs.Base.{at2, look2, at3, at3_same, at3_other}
 use Rattle.refusals.proofs.Passed.{Carries, carry_has}
 use Rattle.onecopy.proofs.Deliver.{carry_v}
 use Rattle.onecopy.proofs.Rules as Rules
-use Rattle.onecopy.proofs.Ordering.{counter}
+use Rattle.onecopy.proofs.Counter.{counter}
 use Rattle.onecopy.proofs.World.{Ends, move}
 use Rattle.demands.proofs.Tables.{Taken}
 use Rattle.demands.proofs.Cells.{cell, cell_in, cell_put}

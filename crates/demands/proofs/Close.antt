@@ -38,7 +38,7 @@ use Rattle.onecopy.proofs.Base.{at2}
 use Rattle.onecopy.proofs.Close.{close_v}
 use Rattle.onecopy.proofs.Rules as Rules
 use Rattle.onecopy.proofs.Rules.{Closable}
-use Rattle.onecopy.proofs.Ordering.{counter}
+use Rattle.onecopy.proofs.Counter.{counter}
 use Rattle.onecopy.proofs.World.{World, Ends, move}
 use Rattle.demands.specs.View.{slot, table_of}
 use Rattle.demands.proofs.Tables.{Taken, slot_is}

@@ -29,7 +29,7 @@ use Rattle.onecopy.proofs.Base.{at2, look2, at3, at3_same, at3_other}
 use Rattle.onecopy.proofs.Deliver.{deliver_v}
 use Rattle.onecopy.proofs.Rules as Rules
 use Rattle.onecopy.proofs.Rules.{Conflict, Queued, Offered, vote_r}
-use Rattle.onecopy.proofs.Ordering.{counter}
+use Rattle.onecopy.proofs.Counter.{counter}
 use Rattle.onecopy.proofs.World.{Ends, move}
 use Rattle.demands.specs.View.{table_of}
 use Rattle.demands.proofs.Tables.{Taken, slot_at}

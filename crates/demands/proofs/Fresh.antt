@@ -23,7 +23,7 @@ use Rattle.machine.specs.Parts.{place_of}
 use Rattle.machine.specs.Fresh.{start_of}
 use Rattle.onecopy.proofs.Base.{sum-zero}
 use Rattle.onecopy.proofs.Serial.{fresh_v}
-use Rattle.onecopy.proofs.Ordering.{counter}
+use Rattle.onecopy.proofs.Counter.{counter}
 use Rattle.onecopy.proofs.World.{World, Reached, fresh}
 use Rattle.demands.proofs.Tables.{Taken, holds_site}
 use Rattle.demands.proofs.Cells.{cell_same, all_same}

@@ -28,7 +28,7 @@ use Rattle.search.specs.declared.Todo.TheVariants as todo
 use Rattle.machine.proofs.Settle.{Accepted}
 use Rattle.listing.specs.Run.{end_of}
 use Rattle.onecopy.proofs.Base.{sum-zero}
-use Rattle.onecopy.proofs.Ordering.{counter}
+use Rattle.onecopy.proofs.Counter.{counter}
 use Rattle.onecopy.proofs.World.{count, Reached, holds}
 use Rattle.onecopy.proofs.Count as Count
 use Rattle.onecopy.proofs.Settle.{Runs, none, then, runs_same}

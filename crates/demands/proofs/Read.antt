@@ -23,7 +23,7 @@ use Rattle.machine.specs.declared.State.{State}
 use Rattle.onecopy.specs.View.{View}
 use Rattle.onecopy.proofs.Base.{at2}
 use Rattle.onecopy.proofs.Read.{row, read_v, Reads}
-use Rattle.onecopy.proofs.Ordering.{counter}
+use Rattle.onecopy.proofs.Counter.{counter}
 use Rattle.onecopy.proofs.World.{Steps, read}
 use Rattle.demands.specs.View.{table_of}
 use Rattle.demands.proofs.Tables.{Taken, slot_is, slot_none, slot_at}

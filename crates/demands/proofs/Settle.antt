@@ -18,7 +18,7 @@ use Rattle.machine.proofs.Settle.{Accepted, todo_accepted, settle_stops, settle_
 use Rattle.machine.proofs.Ends.{Finished, settle_finishes}
 use Rattle.onecopy.proofs.Rules as Rules
 use Rattle.onecopy.proofs.Rules.{Move}
-use Rattle.onecopy.proofs.Ordering.{counter}
+use Rattle.onecopy.proofs.Counter.{counter}
 use Rattle.onecopy.proofs.World as World
 use Rattle.onecopy.proofs.World.{World, count, offers, Ends, move, tick, ends, Reached, Holds, holds}
 use Rattle.onecopy.proofs.Settle.{Runs, none, then, Over}

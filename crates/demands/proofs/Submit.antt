@@ -28,7 +28,8 @@ use Rattle.machine.specs.Effects.{next_place, submit_done}
 use Rattle.machine.specs.declared.State.{State}
 use Rattle.onecopy.proofs.Base.{at1, look1}
 use Rattle.onecopy.proofs.Place.{place_v}
-use Rattle.onecopy.proofs.Ordering.{counter, submit}
+use Rattle.onecopy.proofs.Ordering.{submit}
+use Rattle.onecopy.proofs.Counter.{counter}
 use Rattle.onecopy.proofs.World as World
 use Rattle.onecopy.proofs.World.{World, Steps}
 use Rattle.demands.specs.View.{slot, table_of, whose_in}

@@ -32,7 +32,7 @@ use Rattle.onecopy.specs.View.{View}
 use Rattle.onecopy.proofs.Base.{sum-zero}
 use Rattle.onecopy.proofs.Count.{tick, Count, todo}
 use Rattle.onecopy.proofs.Formula.{sum-add, size_r, size_v, part_done, hand_done, row_done, whole, formula}
-use Rattle.onecopy.proofs.Ordering.{counter}
+use Rattle.onecopy.proofs.Counter.{counter}
 use Rattle.onecopy.proofs.World.{count, Reached, Holds, holds}
 use Rattle.onecopy.proofs.Settle as Theory
 use Rattle.demands.specs.View.{table_of}

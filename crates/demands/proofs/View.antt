@@ -27,7 +27,7 @@ use Rattle.onecopy.specs.View.{View}
 use Rattle.onecopy.proofs.Inv.{Fit, Inv}
 use Rattle.onecopy.proofs.Live.{Kept}
 use Rattle.onecopy.proofs.Rules.{Certify, Rules, base_admission, base_verdicts}
-use Rattle.onecopy.proofs.Ordering.{counter}
+use Rattle.onecopy.proofs.Counter.{counter}
 use Rattle.onecopy.proofs.World.{Plan, World, Holds}
 use Rattle.demands.specs.View.{slot, table_of, whose_in}
 use Rattle.demands.proofs.Tables.{holds_site, Taken}

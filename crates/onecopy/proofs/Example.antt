@@ -27,7 +27,7 @@ use Rattle.onecopy.proofs.Rules as Rules
 use Rattle.onecopy.proofs.Rules.{Rules, base_admission, base_verdicts}
 use Rattle.onecopy.proofs.Votes.{Listed, vote_l, by_list}
 use Rattle.onecopy.proofs.Ordering as Ord
-use Rattle.onecopy.proofs.Ordering.{counter}
+use Rattle.onecopy.proofs.Counter.{counter}
 use Rattle.onecopy.proofs.World.{Plan, World, count, Ends, move, read, submit, ends, Reached, fresh, after, Holds, holds, full, demand3}
 use Rattle.onecopy.proofs.Settle.{Runs, none, then, Over, remaining, ends_same, over, settle}
 use Rattle.onecopy.proofs.Formula.{size_r, size_v, row_done, formula}

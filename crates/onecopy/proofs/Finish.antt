@@ -11,8 +11,10 @@ use Rattle.onecopy.specs.Copy.{Table}
 use Rattle.onecopy.specs.View.{View}
 use Rattle.onecopy.proofs.Base.{at2, look2, at3, at3_same, look3}
 use Rattle.onecopy.proofs.Inv.{Fit, Inv, cast_placed}
-use Rattle.onecopy.proofs.Deliver.{deliver_v, Delivers, deliver_inv, carry_v, carry_inv}
-use Rattle.onecopy.proofs.Close.{close_v, Closes, close_inv}
+use Rattle.onecopy.proofs.Deliver.{deliver_v, Delivers, carry_v}
+use Rattle.onecopy.proofs.DeliverKeeps.{deliver_inv, carry_inv}
+use Rattle.onecopy.proofs.Close.{close_v, Closes}
+use Rattle.onecopy.proofs.CloseKeeps.{close_inv}
 use Rattle.onecopy.proofs.Serial as Ser
 use Rattle.onecopy.proofs.Serial.{Step}
 use Rattle.onecopy.proofs.Live.{Voted}

@@ -4,8 +4,11 @@ pub mod Copy
 pub mod Inv
 pub mod Read
 pub mod Place
+pub mod PlaceKeeps
 pub mod Deliver
+pub mod DeliverKeeps
 pub mod Close
+pub mod CloseKeeps
 pub mod Serial
 pub mod Live
 pub mod Count
@@ -13,6 +16,7 @@ pub mod Finish
 pub mod Rules
 pub mod Votes
 pub mod Ordering
+pub mod Counter
 pub mod World
 pub mod Settle
 pub mod Formula

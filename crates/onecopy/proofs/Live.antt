@@ -11,7 +11,8 @@ use Rattle.onecopy.specs.View.{View}
 use Rattle.onecopy.proofs.Base.{less}
 use Rattle.onecopy.proofs.Inv.{Fit, Inv, one_place}
 use Rattle.onecopy.proofs.Deliver.{Ready}
-use Rattle.onecopy.proofs.Close.{Covered, AllYes, OneNo, Closes, minds}
+use Rattle.onecopy.proofs.Close.{Covered, AllYes, OneNo, Closes}
+use Rattle.onecopy.proofs.CloseKeeps.{minds}
 
 -- each key that is read is held by a site that runs, its holders are in R(t), and each site of a local transaction holds all that it reads
 pub record Kept (T : Table) (local up : ℕ → Bool) : Type 0 where

@@ -11,7 +11,8 @@ use Rattle.onecopy.specs.View.{View}
 use Rattle.onecopy.proofs.Inv.{Fit, Inv}
 use Rattle.onecopy.proofs.Deliver.{deliver_v, Delivers, carry_v}
 use Rattle.onecopy.proofs.Close.{close_v, Closes}
-pub use Rattle.onecopy.proofs.Close.{Covered, AllYes, OneNo, minds}
+pub use Rattle.onecopy.proofs.Close.{Covered, AllYes, OneNo}
+pub use Rattle.onecopy.proofs.CloseKeeps.{minds}
 use Rattle.onecopy.proofs.Live.{Stuck}
 use Rattle.onecopy.proofs.Count.{Count}
 use Rattle.onecopy.proofs.Finish as Finish

@@ -13,9 +13,12 @@ use Rattle.onecopy.proofs.Base.{less}
 use Rattle.onecopy.proofs.Copy.{copy_gap, copy_chain}
 use Rattle.onecopy.proofs.Inv.{Fit, Inv, agree, closed_placed, local, stored, top_store}
 use Rattle.onecopy.proofs.Read.{read_v, Reads, read_inv}
-use Rattle.onecopy.proofs.Place.{place_v, Places, place_inv}
-use Rattle.onecopy.proofs.Deliver.{deliver_v, Delivers, deliver_inv, carry_v, carry_inv}
-use Rattle.onecopy.proofs.Close.{close_v, Closes, close_inv}
+use Rattle.onecopy.proofs.Place.{place_v, Places}
+use Rattle.onecopy.proofs.PlaceKeeps.{place_inv}
+use Rattle.onecopy.proofs.Deliver.{deliver_v, Delivers, carry_v}
+use Rattle.onecopy.proofs.DeliverKeeps.{deliver_inv, carry_inv}
+use Rattle.onecopy.proofs.Close.{close_v, Closes}
+use Rattle.onecopy.proofs.CloseKeeps.{close_inv}
 
 -- nothing has a place, and each replica has version 1 with the first value; n and e, who stands at a place and what was read, are any
 unfoldable pub fresh_v : Table → (ℕ → ℕ) → (ℕ → ℕ → ℕ × ℕ) → View

@@ -14,7 +14,8 @@ use Rattle.onecopy.proofs.Close.{close_v}
 use Rattle.onecopy.proofs.Deliver.{carry_v}
 use Rattle.onecopy.proofs.Read as Read
 use Rattle.onecopy.proofs.Read.{read_v, Reads}
-use Rattle.onecopy.proofs.Place.{place_v, place_inv}
+use Rattle.onecopy.proofs.Place.{place_v}
+use Rattle.onecopy.proofs.PlaceKeeps.{place_inv}
 use Rattle.onecopy.proofs.Serial as Ser
 use Rattle.onecopy.proofs.Serial.{fresh_v, fresh_inv, Reach, start, go, reached}
 use Rattle.onecopy.proofs.Live.{Voted}
