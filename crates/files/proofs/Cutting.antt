@@ -46,7 +46,7 @@ cut_within s = walk_has (cut_turn s) (length s) (λ at. length s - at) (cut_fall
     to_end at = at ≤ length s
 
 -- the else branch of `let Record::Whole { .. }`
-pub other_ends : (n : ℕ) (r : Record) → OneOf (1 ∷ 2 ∷ []) (tag_of R.the_type r) → cut_by n r ≡ stop n
-other_ends n (Whole tag start len end) h = absurd (elim h [ inl e ↦ omega arith | inr e ↦ omega arith ])
+pub other_ends : (n : ℕ) (r : Record) → ((tag start len next : ℕ) → r ≡ Whole tag start len next → ⊥) → cut_by n r ≡ stop n
+other_ends n (Whole tag start len next) h = absurd (h tag start len next refl)
 other_ends n (Short tag) h = refl
 other_ends n Cut h = refl

@@ -52,8 +52,8 @@ setup_has s I P keeps i = walk_has (setup_turn s) (reading Ready no_tables) (λ 
     I P (λ r j. turn_is r.tables s r.at (λ (x : Setup). Has I P (onward x.tables x.progress)) (keeps r j)) (suc (length s)) (record { at = 0; tables = no_tables }) (omega arith) i
 
 -- the else branch of `let Progress::On(next)`
-pub other_stops : (T : Tables) (v : Progress) → OneOf (1 ∷ 2 ∷ []) (tag_of P.the_type v) → onward T v ≡ stop (reading v T)
-other_stops T (On to) h = absurd (elim h [ inl e ↦ omega arith | inr e ↦ omega arith ])
+pub other_stops : (T : Tables) (v : Progress) → ((to : ℕ) → v ≡ On to → ⊥) → onward T v ≡ stop (reading v T)
+other_stops T (On to) h = absurd (h to refl)
 other_stops T Ready h = refl
 other_stops T (Refused n at) h = refl
 

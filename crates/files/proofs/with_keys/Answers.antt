@@ -1,0 +1,8 @@
+-- The stores are those of `with_keys`.
+use borrow.Author.Rules.{rules}
+use Rattle.files.specs.Rows.{with_keys}
+use Rattle.files.proofs.with_keys.Goals as goal
+
+pub returns : goal.returns
+unfolding with_keys
+returns c = rw c.first_values-first.ensures

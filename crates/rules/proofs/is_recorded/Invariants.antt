@@ -1,0 +1,17 @@
+-- `rules::is_recorded` meets its contract. The loop counts down, and what holds of the first i reads holds of all n.
+use mathlib.Core.Path.{◌≡◌, refl}
+use Prim.Native.Nat.{◌-◌, ◌≤◌}
+use native.Mathlib.Omega.{arith}
+use borrow.Author.Rules.{rules}
+use Rattle.bounded.specs.Bounded.{all_below}
+use Rattle.bounded.proofs.Laws.{all_down}
+use Rattle.layout.specs.Layout.{the_recorded}
+use Rattle.layout.specs.Cells.{recorded_in}
+use Rattle.layout.proofs.Cells.{recorded_at}
+use Rattle.rules.proofs.is_recorded.Given as goal
+
+abbrev pub invariant-loop-i : goal.invariant-loop-i
+invariant-loop-i l = (l.i ≤ l.n) × (all_below l.i (recorded_in (the_recorded l.flags) l.t) ≡ all_below l.n (recorded_in (the_recorded l.flags) l.t))
+
+abbrev pub decreases-loop-i : goal.decreases-loop-i
+decreases-loop-i l = l.i
