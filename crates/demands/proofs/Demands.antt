@@ -44,8 +44,8 @@ pub no_choice : (st : State) → Arrays st → usable st ≡ true → (x : Step)
 no_choice = Determined.determined
 
 -- demand 3: from fresh, after any steps, refused ones included
-pub one_copy_lem : (T : Tables) → judge T ≡ 0 → (l : List Step) → OneCopy (end_of (fresh_of T).state l)
-one_copy_lem = Copies.every_state_one_copy
+pub one_copy : (T : Tables) → judge T ≡ 0 → (l : List Step) → OneCopy (end_of (fresh_of T).state l)
+one_copy = Copies.every_state_one_copy
 
 -- SETTLE: it closes all submitted transactions, and its count is the sum less the steps already done, which are those that were taken
 pub settle : (T : Tables) → judge T ≡ 0 → (l : List Step) → Settles (end_of (fresh_of T).state l)

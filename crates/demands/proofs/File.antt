@@ -27,7 +27,7 @@ every_listing file bytes = by (read_of file).outcome refl
     by outcome.Fine e h =
         let j = file_judged (take (cut_of file) file) (drop (cut_of file) file) e in
         let q : lines_of (read_of file).tables (drop (cut_of file) file) ≡ bytes = cc in
-        record { taken = j; lines = sym q; one_copy_lem = every_state_one_copy (read_of file).tables j (schedule_in file) }
+        record { taken = j; lines = sym q; one_copy = every_state_one_copy (read_of file).tables j (schedule_in file) }
     by (outcome.Refused n at) e h = absurd (apart (cc))
 
 file_number : (file : List ℕ) (n at : ℕ) → listing_of file ≡ refused n at → OneOf file_numbers_lem n

@@ -32,7 +32,7 @@ pub record Listed (file bytes : List ℕ) : Type 0 where
   -- the listing is each step's line, then the state at the end
   pub lines : bytes ≡ step_lines 0 (answers_of (start_in file) (schedule_in file)) ++ state_lines (end_of (start_in file) (schedule_in file))
   -- and that state is one-copy serializable
-  pub one_copy_lem : OneCopy (end_of (start_in file) (schedule_in file))
+  pub one_copy : OneCopy (end_of (start_in file) (schedule_in file))
 
 -- the file refusals, and 9
 abbrev pub file_numbers : List ℕ
