@@ -2,19 +2,15 @@
 -- Assumes nothing.
 use Prim.Native.Nat.{ℕ, suc, ◌-◌, ◌<◌, ◌≤◌}
 use mathlib.Core.Bool.{Bool, true, false, cond}
-use mathlib.Core.List.{List, [], ◌∷◌}
-use mathlib.Core.Logic.{inl, inr}
+use mathlib.Core.List.{List}
 use mathlib.Core.Path.{◌≡◌, refl}
 use native.Mathlib.Omega.{arith}
 use lib.Dec.{eqb}
 use lib.ListN.{length}
-use types.Run.{OneOf}
-use denote.Enum.Declared.{tag_of}
 use Rattle.records.specs.Record.{record_at}
 use Rattle.records.specs.declared.Record.{Record}
 use Rattle.records.specs.declared.Record.TheVariants.{Whole, Short, Cut}
 use Rattle.records.proofs.Laws.{apart, Lies, whole_lies}
-use Rattle.records.specs.contracts.Record as R
 use Rattle.files.specs.Walk.{Turn, go, stop}
 use Rattle.files.specs.Cut.{cut_by, cut_turn, cut_of}
 use Rattle.files.proofs.Walk.{Has, walk_has}

@@ -2,14 +2,11 @@
 -- Assumes nothing.
 use Prim.Native.Nat.{ℕ, suc, ◌-◌, ◌<◌, ◌≤◌}
 use mathlib.Core.Bool.{Bool, true, false, cond}
-use mathlib.Core.List.{List, [], ◌∷◌}
-use mathlib.Core.Logic.{inl, inr}
+use mathlib.Core.List.{List}
 use mathlib.Core.Path.{◌≡◌, refl, ap}
 use native.Mathlib.Omega.{arith}
 use lib.Dec.{eqb}
 use lib.ListN.{length}
-use types.Run.{OneOf}
-use denote.Enum.Declared.{tag_of}
 use Rattle.tables.specs.Empty.{no_tables}
 use Rattle.tables.specs.declared.Tables.{Tables}
 use Rattle.records.specs.Judge.{judge_at}
@@ -25,7 +22,6 @@ use Rattle.files.specs.declared.Setup.{Setup}
 use Rattle.files.proofs.Fine.{group_room}
 use Rattle.files.proofs.Turns.{Cases, turn_is}
 use Rattle.files.proofs.Walk.{Has, walk_has}
-use Rattle.files.specs.contracts.Progress as P
 
 pub setup_falls : (s : List ℕ) (x y : Reached) → setup_turn s x ≡ go y → length s - y.at < length s - x.at
 unfolding setup_turn

@@ -28,6 +28,7 @@ use Rattle.machine.specs.Settle.{settle_done}
 use Rattle.machine.specs.Steps.{done, decided}
 use Rattle.machine.specs.Lent.{state_of, Takes}
 use Rattle.machine.specs.declared.State.{State}
+use Rattle.machine.specs.declared.Stepped.{Stepped}
 use Rattle.steps.specs.declared.Answer.{Answer}
 use Rattle.steps.specs.declared.Answer.TheVariants as answer
 use Rattle.steps.specs.declared.Step.{Step}
@@ -53,6 +54,10 @@ pub delivers : (st : State) (s t v : ℕ) (next : State) → deliver_refusal st 
     → Takes st (Deliver s) (answer.Delivered t v) next
 unfolding refusal_in done deliver_done
 delivers st s t v next z e q h = accepts st (Deliver s) z (answer.Delivered t v) next (rw (← e, ← q)) (rw (← e, ← q) h)
+
+-- an answer and the state after it, as one
+pub stepped : (st : State) (x : Step) (a : Answer) (next : State) → Takes st x a next → ◌≡◌ {A = Stepped} (record { answer = a; next = next }) (decided st x)
+stepped st x a next h = rw (h.0, h.1)
 
 -- ---- a store
 

@@ -144,6 +144,15 @@ module _ (st : State) (ok : usable st ≡ true) (order l' : List ℕ) where
   unfolding usable
   turn_carries c k m h w = record { ok = ok; knows = w; stops = λ z. absurd (omega arith); same = λ f n l. carried_goes st k f n c h l }
 
+  -- nothing
+  pub turn_none : todo st ≡ Nothing → Knows st.tables (parts_of st) order l' → Turned st 0 st order l'
+  turn_none e k = record {
+    ok = ok;
+    knows = k;
+    stops = λ _. e;
+    same = λ f n l. let a : f - 0 ≡ f = omega arith in let b : n + 0 ≡ n = omega arith in rw (a, b);
+  }
+
 -- ---- the loop
 
 -- after n steps, from start on
@@ -171,6 +180,12 @@ unfolding settle_done
 going_first st order known ok k = record { ok = ok; knows = k; same = refl }
 
 module _ (start st : State) (n : ℕ) (order known : List ℕ) (g : Going start st n order known) where
+  -- a turn of k steps
+  pub going_turns : (st' : State) (k : ℕ) (l : List ℕ) → k ≤ most - n → Turned st k st' order l → Going start st' (n + k) order l
+  going_turns st' k l b t =
+      let m : most - (n + k) ≡ most - n - k = omega arith in
+      record { ok = t.ok; knows = t.knows; same = rw m (sym (t.same (most - n) n b)) ∙ g.same }
+
   -- of none: SETTLE stops
   pub going_stops : (st' : State) (k : ℕ) (l : List ℕ) → n < most → k ≡ 0 → Turned st k st' order l → Ended start st' n
   going_stops st' k l b z t =

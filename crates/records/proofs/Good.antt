@@ -3,8 +3,11 @@
 use Prim.Native.Nat.{ℕ}
 use mathlib.Core.Bool.{Bool, true, false, cond}
 use mathlib.Core.List.{List, [], ◌∷◌}
+use mathlib.Core.Logic.{inl, inr}
 use mathlib.Core.Path.{◌≡◌, refl}
+use native.Mathlib.Omega.{arith}
 use types.Run.{OneOf, hit}
+use denote.Enum.Declared.{tag_of}
 use Rattle.records.specs.Record.{record_at}
 use Rattle.records.specs.Rule.{fits}
 use Rattle.records.specs.Judge.{judge_by, judge_at}
@@ -13,12 +16,24 @@ use Rattle.records.specs.declared.Record.TheVariants.{Whole, Short, Cut}
 use Rattle.records.specs.declared.Judged.{Judged}
 use Rattle.records.specs.declared.Judged.TheVariants.{Good, Bad}
 use Rattle.records.proofs.Laws.{apart, Lies, whole_lies}
+use Rattle.records.specs.contracts.Record as R
 
 -- only the tag of what was found is asked about
 pub one_tag : (p : ℕ → Bool) (s : List ℕ) (r : Record) (b : Bool) → b ≡ p (elim r [ Whole tag start len next ↦ tag | Short tag ↦ tag | Cut ↦ 0 ]) → judge_by (λ tag. b) s r ≡ judge_by p s r
 one_tag p s (Whole tag start len next) b e = rw e
 one_tag p s (Short tag) b e = rw e
 one_tag p s Cut b e = refl
+
+-- the else branch of `let Record::Whole { .. }`
+pub not_whole : (s : List ℕ) (r : Record) → OneOf (1 ∷ 2 ∷ []) (tag_of R.the_type r) → judge_by (λ tag. true) s r ≡ Bad 2
+not_whole s (Whole tag start len next) h = absurd (elim h [ inl e ↦ omega arith | inr e ↦ omega arith ])
+not_whole s (Short tag) h = refl
+not_whole s Cut h = refl
+
+pub short : (s : List ℕ) (r : Record) → OneOf (1 ∷ 2 ∷ []) (tag_of R.the_type r) → OneOf (0 ∷ 1 ∷ []) (tag_of R.the_type r) → judge_by (λ tag. false) s r ≡ Bad 3
+short s (Whole tag start len next) h g = absurd (elim h [ inl e ↦ omega arith | inr e ↦ omega arith ])
+short s (Short tag) h g = refl
+short s Cut h g = absurd (elim g [ inl e ↦ omega arith | inr e ↦ omega arith ])
 
 pub record Is (p : ℕ → Bool) (s : List ℕ) (at tag start len next : ℕ) : Type 0 where
   pub lies : Lies s at start len next

@@ -1,10 +1,7 @@
-use Prim.Native.Nat.{suc, ◌-◌}
 use mathlib.Core.Path.{◌≡◌, sym, ◌∙◌}
 use native.Mathlib.Nat.{sub-zero}
-use lib.ListN.{length}
 use borrow.Author.Tests.{eq-eqb, ne_eqb}
-use borrow.Author.Rules.{rules}
-use Rattle.files.specs.Walk.{go, walk}
+use Rattle.files.specs.Walk.{go}
 use Rattle.files.specs.Cut.{cut_of, cut_turn}
 use Rattle.files.proofs.Walk.{walk_stops, walk_goes}
 use Rattle.files.proofs.Cutting.{cut_falls, other_ends}

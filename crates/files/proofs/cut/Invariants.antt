@@ -1,14 +1,9 @@
 -- The loop's invariant: the walk from where the loop is comes to the cut.
 use Prim.Native.Nat.{suc, ◌-◌}
-use mathlib.Core.Path.{◌≡◌, sym, ◌∙◌}
-use native.Mathlib.Nat.{sub-zero}
+use mathlib.Core.Path.{◌≡◌}
 use lib.ListN.{length}
-use borrow.Author.Tests.{eq-eqb, ne_eqb}
-use borrow.Author.Rules.{rules}
-use Rattle.files.specs.Walk.{go, walk}
+use Rattle.files.specs.Walk.{walk}
 use Rattle.files.specs.Cut.{cut_of, cut_turn}
-use Rattle.files.proofs.Walk.{walk_stops, walk_goes}
-use Rattle.files.proofs.Cutting.{cut_falls, other_ends}
 use Rattle.files.proofs.cut.Given as goal
 
 abbrev pub invariant-loop-tag : goal.invariant-loop-tag

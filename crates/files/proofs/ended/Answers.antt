@@ -1,6 +1,5 @@
 -- Each `return` by the refusal and what is left of the setup.
 use borrow.Author.Tests.{eq-eqb, ne_eqb, le-leb, lt-leb}
-use borrow.Author.Rules.{rules}
 use Rattle.files.specs.Setup.{ended}
 use Rattle.files.proofs.ended.Goals as goal
 

@@ -2,7 +2,6 @@
 use mathlib.Core.Path.{◌∙◌}
 use native.Mathlib.Numerals.{add-one}
 use native.Mathlib.Omega.{arith}
-use borrow.Author.Rules.{rules}
 use Rattle.tables.proofs.Laws.{ninth}
 use Rattle.files.specs.Setup.{taken}
 use Rattle.files.specs.Rows.{with_group}

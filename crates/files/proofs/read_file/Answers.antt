@@ -3,7 +3,6 @@ use Prim.Native.Nat.{◌+◌, ◌<◌, ◌≤◌}
 use native.Mathlib.Omega.{arith}
 use lib.ListN.{length}
 use borrow.Author.Tests.{lt-ltb, le-ltb}
-use borrow.Author.Rules.{rules}
 use Rattle.files.specs.File.{limit, file_of}
 use Rattle.files.proofs.read_file.Goals as goal
 

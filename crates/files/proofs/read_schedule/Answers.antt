@@ -1,12 +1,8 @@
-use Prim.Native.Nat.{suc, ◌-◌}
 use mathlib.Core.Path.{◌≡◌, sym, ◌∙◌}
 use native.Mathlib.Nat.{sub-zero}
-use lib.ListN.{length}
 use borrow.Author.Tests.{eq-eqb, ne_eqb}
-use borrow.Author.Rules.{rules}
 use Rattle.files.specs.Schedule.{schedule_turn, read_schedule}
-use Rattle.files.specs.Walk.{go, stop, walk}
-use Rattle.files.specs.declared.Progress.TheVariants.{Ready}
+use Rattle.files.specs.Walk.{go, stop}
 use Rattle.files.proofs.Falls.{schedule_falls}
 use Rattle.files.proofs.Walk.{walk_stops, walk_goes}
 use Rattle.files.proofs.read_schedule.Goals as goal

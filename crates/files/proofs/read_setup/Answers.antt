@@ -1,13 +1,10 @@
-use Prim.Native.Nat.{ℕ, suc, ◌-◌, ◌≤◌}
+use Prim.Native.Nat.{ℕ, ◌-◌}
 use mathlib.Core.Path.{◌≡◌, sym, ◌∙◌}
 use mathlib.Core.List.{List}
 use native.Mathlib.Nat.{sub-zero}
 use lib.ListN.{length}
-use borrow.Author.Rules.{rules}
-use Rattle.tables.specs.Empty.{no_tables}
-use Rattle.files.specs.Setup.{Reached, reading, setup_turn, read_setup}
-use Rattle.files.specs.Walk.{go, walk}
-use Rattle.files.specs.declared.Progress.TheVariants.{Ready}
+use Rattle.files.specs.Setup.{Reached, setup_turn, read_setup}
+use Rattle.files.specs.Walk.{go}
 use Rattle.files.proofs.Falls.{setup_falls, other_stops, no_groups, groups_stay}
 use Rattle.files.proofs.Walk.{walk_stops, walk_goes}
 use Rattle.files.proofs.read_setup.Goals as goal
@@ -28,9 +25,6 @@ pub loop-next-init : goal.loop-next-init
 unfolding read_setup
 loop-next-init c = (rw c.no_tables-tables.ensures no_groups, rw (sub-zero, c.no_tables-tables.ensures))
 
-pub turn-step-requires : goal.turn-step-requires
-turn-step-requires c = c.loop-next.invariant.0
-
 pub returns-in_default : goal.returns-in_default
 unfolding setup_turn
 returns-in_default c = sym (walk_stops _ _ _ _ _ (rw (← c.turn-step.ensures) (other_stops c.turn-step.result.tables c.turn-step.result.progress c.in_default.not-On))) ∙ c.loop-next.invariant.1
@@ -39,4 +33,7 @@ pub loop-next-smaller : goal.loop-next-smaller
 loop-next-smaller c = setup_falls _ _ _ (goes (goal.at.loop-next-smaller c).In-On)
 
 pub loop-next-preserved : goal.loop-next-preserved
-loop-next-preserved c = (rw c.turn-step.ensures (groups_stay _ _ _ c.loop-next.invariant.0), walk_goes _ _ (size c.args.s.now) (setup_falls _) _ _ (goes (goal.at.loop-next-preserved c).In-On) ∙ c.loop-next.invariant.1)
+loop-next-preserved c = (
+  rw c.turn-step.ensures (groups_stay _ _ _ c.loop-next.invariant.0),
+  walk_goes _ _ (size c.args.s.now) (setup_falls _) _ _ (goes (goal.at.loop-next-preserved c).In-On) ∙ c.loop-next.invariant.1,
+)

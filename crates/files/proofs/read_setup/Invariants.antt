@@ -1,16 +1,11 @@
 -- The loop's invariant: the walk from where the loop is reads as the whole does, and the groups are at most eight.
-use Prim.Native.Nat.{ℕ, suc, ◌-◌, ◌≤◌}
-use mathlib.Core.Path.{◌≡◌, sym, ◌∙◌}
-use mathlib.Core.List.{List}
-use native.Mathlib.Nat.{sub-zero}
+use Prim.Native.Nat.{suc, ◌-◌, ◌≤◌}
+use mathlib.Core.Path.{◌≡◌}
 use lib.ListN.{length}
-use borrow.Author.Rules.{rules}
 use Rattle.tables.specs.Empty.{no_tables}
-use Rattle.files.specs.Setup.{Reached, reading, setup_turn, read_setup}
-use Rattle.files.specs.Walk.{go, walk}
+use Rattle.files.specs.Setup.{reading, setup_turn, read_setup}
+use Rattle.files.specs.Walk.{walk}
 use Rattle.files.specs.declared.Progress.TheVariants.{Ready}
-use Rattle.files.proofs.Falls.{setup_falls, other_stops, no_groups, groups_stay}
-use Rattle.files.proofs.Walk.{walk_stops, walk_goes}
 use Rattle.files.proofs.read_setup.Given as goal
 
 abbrev pub invariant-loop-next : goal.invariant-loop-next

@@ -1,7 +1,6 @@
 -- Each arm by its tag.
 use native.Mathlib.Omega.{arith}
 use borrow.Author.Tests.{ne_eqb}
-use borrow.Author.Rules.{rules}
 use Rattle.files.specs.Schedule.{step_by}
 use Rattle.files.proofs.step_by.Goals as goal
 

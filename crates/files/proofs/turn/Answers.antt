@@ -1,6 +1,5 @@
 -- A record that is not good is refused; a good one is given its numbers.
 use mathlib.Core.Path.{sym, ◌∙◌}
-use borrow.Author.Rules.{rules}
 use Rattle.files.specs.Setup.{turn_of}
 use Rattle.files.proofs.turn.Goals as goal
 

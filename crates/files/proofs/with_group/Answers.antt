@@ -1,5 +1,4 @@
 -- The stores are those of `with_group`; a byte is a number of one byte.
-use borrow.Author.Rules.{rules}
 use Rattle.records.proofs.Laws.{byte}
 use Rattle.files.specs.Rows.{with_group}
 use Rattle.files.proofs.with_group.Goals as goal

@@ -1,5 +1,4 @@
 -- The stores are those of `with_keys`.
-use borrow.Author.Rules.{rules}
 use Rattle.files.specs.Rows.{with_keys}
 use Rattle.files.proofs.with_keys.Goals as goal
 

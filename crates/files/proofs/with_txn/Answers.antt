@@ -2,7 +2,6 @@
 use Prim.Native.Nat.{◌≤◌}
 use mathlib.Core.Path.{◌≡◌}
 use native.Mathlib.Omega.{arith}
-use borrow.Author.Rules.{rules}
 use Rattle.records.proofs.Laws.{byte}
 use Rattle.files.specs.Rows.{with_txn}
 use Rattle.files.proofs.Txn.{first_count, second_count}

@@ -26,7 +26,8 @@ loop-t-init c = (omega arith, (sym (place_nobody (the_places c.args.numbers.now)
 pub loop-t-preserved : goal.loop-t-preserved
 unfolding next_in
 loop-t-preserved c = let l : c.loop-t.t < txns_of c.args.plan.now = omega (arith, c.loop-t-test.true, c.txns-n.ensures) in
-    let q : get_or c.args.numbers.now (4096 + c.wide-at.result) 0 ≡ place_in (the_places c.args.numbers.now) c.loop-t.t = rw (← c.wide-at.ensures.0) (sym (place_at c.args.numbers.now c.wide-at.result (index (goal.at.loop-t-preserved c).After-wide-at))) in
+    let q : get_or c.args.numbers.now (4096 + c.wide-at.result) 0
+    ≡ place_in (the_places c.args.numbers.now) c.loop-t.t = rw (← c.wide-at.ensures.0) (sym (place_at c.args.numbers.now c.wide-at.result (index (goal.at.loop-t-preserved c).After-wide-at))) in
     let d = rw q at c.sooner-found.ensures.t_value in
     let e = rw q at c.sooner-found.ensures.place_value in (
       omega (arith, c.loop-t-test.true),

@@ -10,7 +10,8 @@ use Rattle.queues.proofs.Queue.{Stands}
 use Rattle.queues.proofs.next_at.Given as goal
 
 abbrev pub invariant-loop-t : goal.invariant-loop-t
-invariant-loop-t l = (l.t ≤ l.n) × Stands (the_places l.numbers) l.found × ((T : Tables) → Plan T l.plan → l.found.t ≡ next_in (the_places l.numbers) (the_delivered l.flags) T.reads T.nreads T.writes T.nwrites l.t (site_keys T l.s) l.s)
+invariant-loop-t l = (l.t ≤ l.n) × Stands (the_places l.numbers) l.found
+    × ((T : Tables) → Plan T l.plan → l.found.t ≡ next_in (the_places l.numbers) (the_delivered l.flags) T.reads T.nreads T.writes T.nwrites l.t (site_keys T l.s) l.s)
 
 abbrev pub decreases-loop-t : goal.decreases-loop-t
 decreases-loop-t l = l.n - l.t

@@ -24,7 +24,16 @@ count_one-count-requires c = omega (arith, c.loop-t.invariant.0, c.loop-t.invari
 
 pub loop-t-preserved : goal.loop-t-preserved
 unfolding submitted_in
-loop-t-preserved c = (omega (arith, c.loop-t-test.true), rw (sum_up, ← c.loop-t.invariant.1, ← c.wide.ensures.0, place_at c.args.numbers.now c.wide.result (index (goal.at.loop-t-preserved c).After-wide)) c.count_one-count.ensures)
+loop-t-preserved c = (
+  omega (arith, c.loop-t-test.true),
+  rw (
+    sum_up,
+    ← c.loop-t.invariant.1,
+    ← c.wide.ensures.0,
+    place_at c.args.numbers.now c.wide.result (index (goal.at.loop-t-preserved c).After-wide),
+  ) c.count_one-count.ensures,
+)
 
 pub returns : goal.returns
-returns c = let z : c.loop-t.t ≡ txns_of c.args.plan.now = omega (arith, c.loop-t.invariant.0, c.loop-t-test.false, c.txns-n.ensures) in (rw z at c.loop-t.invariant.1, omega (arith, c.loop-t.invariant.1, submitted_most (the_places c.args.numbers.now) c.loop-t.t, c.requires.txns))
+returns c = let z : c.loop-t.t ≡ txns_of c.args.plan.now = omega (arith, c.loop-t.invariant.0, c.loop-t-test.false, c.txns-n.ensures) in
+    (rw z at c.loop-t.invariant.1, omega (arith, c.loop-t.invariant.1, submitted_most (the_places c.args.numbers.now) c.loop-t.t, c.requires.txns))

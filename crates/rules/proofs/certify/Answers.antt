@@ -1,15 +1,12 @@
 use mathlib.Core.Path.{◌≡◌, sym, ◌∙◌}
-use Prim.Native.Nat.{◌-◌, ◌≤◌, ◌<◌}
+use Prim.Native.Nat.{◌-◌, ◌<◌}
 use native.Mathlib.Omega.{arith}
-use borrow.Author.Rules.{rules}
 use Rattle.bounded.specs.Bounded.{all_below}
 use Rattle.bounded.proofs.Laws.{all_down}
-use Rattle.keys.proofs.Laws.{low}
-use Rattle.tables.specs.Lists.{row_at, read_count}
+use Rattle.tables.specs.Lists.{row_at}
 use Rattle.tables.specs.Sites.{site_keys}
 use Rattle.tables.specs.declared.Tables.{Tables}
-use Rattle.plan.specs.Plan.{reads_of, Plan}
-use Rattle.layout.specs.Layout.{the_versions, the_read_versions, the_recorded}
+use Rattle.plan.specs.Plan.{Plan}
 use Rattle.rules.specs.Votes.{certify_in}
 use Rattle.rules.proofs.certify.Goals as goal
 use Rattle.rules.proofs.certify.Goals.{After-has_key, In-loop-i, Start}
@@ -25,7 +22,10 @@ few c = omega (arith, c.loop-i.invariant.0, c.loop-i-test.true, c.requires.laid.
 -- what certifyIn says of the key looked at is what the code asks
 asked : (c : After-has_key) (T : Tables) → Plan T c.args.plan.now
     → (row_at T.reads c.args.t (c.loop-i.i - 1) ≡ c.read_key-k.result) × (site_keys T c.args.s ≡ c.site_set-m.result)
-asked c T p = (sym (c.read_key-k.ensures ∙ p.read_keys _ _ ((txn c.before.before.before.before.before.before).1 T p) (few c.before.before)), sym (c.site_set-m.ensures ∙ p.site_sets _ c.requires.t_bound.1))
+asked c T p = (
+  sym (c.read_key-k.ensures ∙ p.read_keys _ _ ((txn c.before.before.before.before.before.before).1 T p) (few c.before.before)),
+  sym (c.site_set-m.ensures ∙ p.site_sets _ c.requires.t_bound.1),
+)
 
 pub loop-i-preserved-then-is_current : goal.loop-i-preserved-then-is_current
 unfolding certify_in

@@ -1,6 +1,5 @@
 -- `rules::counts_fit` meets its contract. Each arm's tests are those of `counts_fit`, in its order.
 use borrow.Author.Tests.{le-leb, lt-leb}
-use borrow.Author.Rules.{rules}
 use Rattle.rules.specs.Fit.{counts_fit}
 use Rattle.rules.proofs.counts_fit.Goals as goal
 

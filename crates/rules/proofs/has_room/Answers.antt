@@ -1,19 +1,16 @@
 use mathlib.Core.Path.{◌≡◌, sym, ◌∙◌}
-use Prim.Native.Nat.{◌-◌, ◌≤◌, ◌<◌}
+use Prim.Native.Nat.{◌-◌, ◌<◌}
 use native.Mathlib.Omega.{arith}
 use borrow.Author.Tests.{le-ltb, lt-ltb}
-use borrow.Author.Rules.{rules}
 use Rattle.bounded.specs.Bounded.{all_below}
 use Rattle.bounded.proofs.Laws.{all_down}
 use Rattle.keys.proofs.Laws.{low}
 use Rattle.tables.specs.Lists.{row_at}
 use Rattle.tables.specs.Sites.{site_keys}
 use Rattle.tables.specs.declared.Tables.{Tables}
-use Rattle.plan.specs.Plan.{writes_of, Plan}
-use Rattle.layout.specs.Layout.{the_versions}
+use Rattle.plan.specs.Plan.{Plan}
 use Rattle.layout.proofs.Cells.{version_at_lem}
 use Rattle.rules.specs.Votes.{room_in}
-use Rattle.rules.specs.Asked.{room_of}
 use Rattle.rules.proofs.has_room.Goals as goal
 use Rattle.rules.proofs.has_room.Goals.{After-site_set-m, After-wide, After-write_key-k, In-loop-i, Start}
 
@@ -39,15 +36,48 @@ low_key c = rw c.wide.ensures.0 (low 64 _ _ c.site_set-m.type_inv (sym c.has_key
 
 pub returns-then-numbers-s-ge4294967295 : goal.returns-then-numbers-s-ge4294967295
 unfolding room_in
-returns-then-numbers-s-ge4294967295 c T p = rw (← c.loop-i.invariant.1 T p, all_down _ _ c.loop-i-test.true, key (goal.at.returns-then-numbers-s-ge4294967295 c).After-write_key-k T p, set (goal.at.returns-then-numbers-s-ge4294967295 c).After-site_set-m T p, ← c.has_key.ensures, c.if-has_key.true, ← c.wide.ensures.0, version_at_lem c.args.numbers.now c.args.s c.wide.result c.requires.t_bound.1 (low_key (goal.at.returns-then-numbers-s-ge4294967295 c).After-wide), le-ltb _ _ c.if-numbers-s-ge4294967295.true)
+returns-then-numbers-s-ge4294967295 c T p = rw (
+  ← c.loop-i.invariant.1 T p,
+  all_down _ _ c.loop-i-test.true,
+  key (goal.at.returns-then-numbers-s-ge4294967295 c).After-write_key-k T p,
+  set (goal.at.returns-then-numbers-s-ge4294967295 c).After-site_set-m T p,
+  ← c.has_key.ensures,
+  c.if-has_key.true,
+  ← c.wide.ensures.0,
+  version_at_lem c.args.numbers.now c.args.s c.wide.result c.requires.t_bound.1 (low_key (goal.at.returns-then-numbers-s-ge4294967295 c).After-wide),
+  le-ltb _ _ c.if-numbers-s-ge4294967295.true,
+)
 
 pub loop-i-preserved-else-numbers-s-ge4294967295 : goal.loop-i-preserved-else-numbers-s-ge4294967295
 unfolding room_in
-loop-i-preserved-else-numbers-s-ge4294967295 c = (omega (arith, c.loop-i.invariant.0), λ T p. rw (← c.loop-i.invariant.1 T p, all_down _ _ c.loop-i-test.true, key (goal.at.loop-i-preserved-else-numbers-s-ge4294967295 c).After-write_key-k T p, set (goal.at.loop-i-preserved-else-numbers-s-ge4294967295 c).After-site_set-m T p, ← c.has_key.ensures, c.if-has_key.true, ← c.wide.ensures.0, version_at_lem c.args.numbers.now c.args.s c.wide.result c.requires.t_bound.1 (low_key (goal.at.loop-i-preserved-else-numbers-s-ge4294967295 c).After-wide), lt-ltb _ _ c.if-numbers-s-ge4294967295.false))
+loop-i-preserved-else-numbers-s-ge4294967295 c = (
+  omega (arith, c.loop-i.invariant.0),
+  λ T p. rw (
+    ← c.loop-i.invariant.1 T p,
+    all_down _ _ c.loop-i-test.true,
+    key (goal.at.loop-i-preserved-else-numbers-s-ge4294967295 c).After-write_key-k T p,
+    set (goal.at.loop-i-preserved-else-numbers-s-ge4294967295 c).After-site_set-m T p,
+    ← c.has_key.ensures,
+    c.if-has_key.true,
+    ← c.wide.ensures.0,
+    version_at_lem c.args.numbers.now c.args.s c.wide.result c.requires.t_bound.1 (low_key (goal.at.loop-i-preserved-else-numbers-s-ge4294967295 c).After-wide),
+    lt-ltb _ _ c.if-numbers-s-ge4294967295.false,
+  ),
+)
 
 pub loop-i-preserved : goal.loop-i-preserved
 unfolding room_in
-loop-i-preserved c = (omega (arith, c.loop-i.invariant.0), λ T p. rw (← c.loop-i.invariant.1 T p, all_down _ _ c.loop-i-test.true, key (goal.at.loop-i-preserved c).After-write_key-k T p, set (goal.at.loop-i-preserved c).After-site_set-m T p, ← c.has_key.ensures, c.if-has_key.false))
+loop-i-preserved c = (
+  omega (arith, c.loop-i.invariant.0),
+  λ T p. rw (
+    ← c.loop-i.invariant.1 T p,
+    all_down _ _ c.loop-i-test.true,
+    key (goal.at.loop-i-preserved c).After-write_key-k T p,
+    set (goal.at.loop-i-preserved c).After-site_set-m T p,
+    ← c.has_key.ensures,
+    c.if-has_key.false,
+  ),
+)
 
 pub returns : goal.returns
 unfolding room_in all_below

@@ -1,21 +1,17 @@
 -- `rules::is_all_yes` meets its contract. The loop counts down, and what holds of the first f sites holds of all n.
-use mathlib.Core.Path.{◌≡◌, refl}
+use mathlib.Core.Path.{◌≡◌}
 use mathlib.Core.Bool.{◌||◌, not}
-use Prim.Native.Nat.{◌-◌, ◌≤◌}
-use native.Mathlib.Omega.{arith}
+use Prim.Native.Nat.{◌≤◌}
 use lib.Dec.{eqb}
-use borrow.Author.Tests.{eq-eqb, ne_eqb}
-use borrow.Author.Rules.{rules}
 use Rattle.bounded.specs.Bounded.{all_below}
-use Rattle.bounded.proofs.Laws.{all_down}
 use Rattle.keys.specs.Keys.{member}
 use Rattle.layout.specs.Layout.{the_cast}
 use Rattle.layout.specs.Cells.{cell}
-use Rattle.layout.proofs.Cells.{cast_at}
 use Rattle.rules.proofs.is_all_yes.Given as goal
 
 abbrev pub invariant-loop-f : goal.invariant-loop-f
-invariant-loop-f l = (l.f ≤ l.n) × (all_below l.f (λ g. not (member l.held g) || eqb (cell 0 (the_cast l.marks) l.t g) 1) ≡ all_below l.n (λ g. not (member l.held g) || eqb (cell 0 (the_cast l.marks) l.t g) 1))
+invariant-loop-f l = (l.f ≤ l.n) × (all_below l.f (λ g. not (member l.held g) || eqb (cell 0 (the_cast l.marks) l.t g) 1)
+    ≡ all_below l.n (λ g. not (member l.held g) || eqb (cell 0 (the_cast l.marks) l.t g) 1))
 
 abbrev pub decreases-loop-f : goal.decreases-loop-f
 decreases-loop-f l = l.f

@@ -1,15 +1,13 @@
 use mathlib.Core.Path.{◌≡◌, sym, ◌∙◌}
-use Prim.Native.Nat.{ℕ, ◌-◌, ◌≤◌, ◌<◌}
+use Prim.Native.Nat.{◌-◌, ◌<◌}
 use native.Mathlib.Omega.{arith}
-use borrow.Author.Rules.{rules}
 use Rattle.bounded.specs.Bounded.{all_below}
 use Rattle.bounded.proofs.Laws.{all_down}
-use Rattle.tables.specs.Lists.{row_at, read_count}
-use Rattle.tables.specs.Sites.{site_count}
+use Rattle.tables.specs.Lists.{row_at}
 use Rattle.tables.specs.declared.Tables.{Tables}
-use Rattle.plan.specs.Plan.{reads_of, Plan}
+use Rattle.plan.specs.Plan.{Plan}
 use Rattle.rules.specs.Votes.{covered_in}
-use Rattle.rules.proofs.Votes.{Held, covers}
+use Rattle.rules.proofs.Votes.{covers}
 use Rattle.rules.proofs.is_covered.Goals as goal
 use Rattle.rules.proofs.is_covered.Goals.{After-read_key-k, In-loop-i, Start}
 
@@ -31,11 +29,32 @@ low c = omega (arith, c.read_key-k.ensures, c.requires.laid.read_low c.args.t (c
 
 pub loop-i-preserved : goal.loop-i-preserved
 unfolding covered_in
-loop-i-preserved c = (omega (arith, c.loop-i.invariant.0), λ T own carried s p h. rw (← c.loop-i.invariant.1 T own carried s p h, all_down _ _ c.loop-i-test.true, key (goal.at.loop-i-preserved c).After-read_key-k T p, ← covers T c.args.plan.now c.args.held own carried s c.read_key-k.result p h (low (goal.at.loop-i-preserved c).After-read_key-k), ← c.wide.ensures.0, ← c.holders.ensures, ← c.meet.ensures, c.if-meet.true))
+loop-i-preserved c = (
+  omega (arith, c.loop-i.invariant.0),
+  λ T own carried s p h. rw (
+    ← c.loop-i.invariant.1 T own carried s p h,
+    all_down _ _ c.loop-i-test.true,
+    key (goal.at.loop-i-preserved c).After-read_key-k T p,
+    ← covers T c.args.plan.now c.args.held own carried s c.read_key-k.result p h (low (goal.at.loop-i-preserved c).After-read_key-k),
+    ← c.wide.ensures.0,
+    ← c.holders.ensures,
+    ← c.meet.ensures,
+    c.if-meet.true,
+  ),
+)
 
 pub returns-in-loop-i : goal.returns-in-loop-i
 unfolding covered_in
-returns-in-loop-i c T own carried s p h = rw (← c.loop-i.invariant.1 T own carried s p h, all_down _ _ c.loop-i-test.true, key (goal.at.returns-in-loop-i c).After-read_key-k T p, ← covers T c.args.plan.now c.args.held own carried s c.read_key-k.result p h (low (goal.at.returns-in-loop-i c).After-read_key-k), ← c.wide.ensures.0, ← c.holders.ensures, ← c.meet.ensures, c.if-meet.false)
+returns-in-loop-i c T own carried s p h = rw (
+  ← c.loop-i.invariant.1 T own carried s p h,
+  all_down _ _ c.loop-i-test.true,
+  key (goal.at.returns-in-loop-i c).After-read_key-k T p,
+  ← covers T c.args.plan.now c.args.held own carried s c.read_key-k.result p h (low (goal.at.returns-in-loop-i c).After-read_key-k),
+  ← c.wide.ensures.0,
+  ← c.holders.ensures,
+  ← c.meet.ensures,
+  c.if-meet.false,
+)
 
 pub returns : goal.returns
 unfolding covered_in all_below

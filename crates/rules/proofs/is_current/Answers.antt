@@ -1,6 +1,5 @@
 -- `rules::is_current` meets its contract. The cells are those of the read and of the key at s.
 use Rattle.layout.proofs.Cells.{version_at_lem, read_version_at, recorded_at}
-use borrow.Author.Rules.{rules}
 use Rattle.rules.proofs.is_current.Goals as goal
 
 pub returns-then-flags-t : goal.returns-then-flags-t

@@ -1,11 +1,8 @@
-use mathlib.Core.Path.{◌≡◌, refl}
-use Prim.Native.Nat.{◌-◌, ◌≤◌}
+use mathlib.Core.Path.{◌≡◌}
+use Prim.Native.Nat.{◌-◌}
 use native.Mathlib.Omega.{arith}
-use borrow.Author.Rules.{rules}
 use Rattle.bounded.specs.Bounded.{all_below}
 use Rattle.bounded.proofs.Laws.{all_down}
-use Rattle.layout.specs.Layout.{the_recorded}
-use Rattle.layout.specs.Cells.{recorded_in}
 use Rattle.layout.proofs.Cells.{recorded_at}
 use Rattle.rules.proofs.is_recorded.Goals as goal
 

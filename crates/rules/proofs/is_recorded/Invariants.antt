@@ -1,13 +1,9 @@
 -- `rules::is_recorded` meets its contract. The loop counts down, and what holds of the first i reads holds of all n.
-use mathlib.Core.Path.{◌≡◌, refl}
-use Prim.Native.Nat.{◌-◌, ◌≤◌}
-use native.Mathlib.Omega.{arith}
-use borrow.Author.Rules.{rules}
+use mathlib.Core.Path.{◌≡◌}
+use Prim.Native.Nat.{◌≤◌}
 use Rattle.bounded.specs.Bounded.{all_below}
-use Rattle.bounded.proofs.Laws.{all_down}
 use Rattle.layout.specs.Layout.{the_recorded}
 use Rattle.layout.specs.Cells.{recorded_in}
-use Rattle.layout.proofs.Cells.{recorded_at}
 use Rattle.rules.proofs.is_recorded.Given as goal
 
 abbrev pub invariant-loop-i : goal.invariant-loop-i

@@ -1,8 +1,6 @@
 use mathlib.Core.Path.{◌≡◌}
-use Prim.Native.Nat.{◌≤◌}
 use native.Mathlib.Omega.{arith}
 use borrow.Author.Tests.{le-leb, lt-leb}
-use borrow.Author.Rules.{rules}
 use Rattle.bounded.proofs.Laws.{all_down}
 use Rattle.bounded.specs.Bounded.{all_below}
 use Rattle.rules.specs.Fit.{places_fit}

@@ -1,11 +1,6 @@
 -- `rules::places_fit` meets its contract. The loop counts down, and `places_fit` of the first t is that of all n.
 use mathlib.Core.Path.{◌≡◌}
 use Prim.Native.Nat.{◌≤◌}
-use native.Mathlib.Omega.{arith}
-use borrow.Author.Tests.{le-leb, lt-leb}
-use borrow.Author.Rules.{rules}
-use Rattle.bounded.proofs.Laws.{all_down}
-use Rattle.bounded.specs.Bounded.{all_below}
 use Rattle.rules.specs.Fit.{places_fit}
 use Rattle.rules.proofs.places_fit.Given as goal
 

@@ -1,6 +1,5 @@
 -- `rules::row_fits` meets its contract. Each arm's tests are those of `row_fits`, in its order.
 use borrow.Author.Tests.{le-leb, lt-leb}
-use borrow.Author.Rules.{rules}
 use Rattle.rules.specs.Fit.{row_fits}
 use Rattle.rules.proofs.row_fits.Goals as goal
 

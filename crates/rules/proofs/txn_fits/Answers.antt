@@ -1,5 +1,4 @@
 -- `rules::txn_fits` meets its contract. The two calls of `row_fits` are the two sides of `txn_fits`.
-use borrow.Author.Rules.{rules}
 use Rattle.rules.specs.Fit.{txn_fits}
 use Rattle.rules.proofs.txn_fits.Goals as goal
 

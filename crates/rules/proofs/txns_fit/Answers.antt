@@ -1,7 +1,5 @@
 use mathlib.Core.Path.{◌≡◌}
-use Prim.Native.Nat.{◌≤◌}
 use native.Mathlib.Omega.{arith}
-use borrow.Author.Rules.{rules}
 use Rattle.bounded.specs.Bounded.{all_below}
 use Rattle.bounded.proofs.Laws.{all_down}
 use Rattle.rules.specs.Fit.{txns_fit}

@@ -1,10 +1,6 @@
 -- `rules::txns_fit` meets its contract. The loop counts down, and `txns_fit` of the first t transactions is that of all n.
 use mathlib.Core.Path.{◌≡◌}
 use Prim.Native.Nat.{◌≤◌}
-use native.Mathlib.Omega.{arith}
-use borrow.Author.Rules.{rules}
-use Rattle.bounded.specs.Bounded.{all_below}
-use Rattle.bounded.proofs.Laws.{all_down}
 use Rattle.rules.specs.Fit.{txns_fit}
 use Rattle.rules.proofs.txns_fit.Given as goal
 

@@ -1,9 +1,7 @@
 -- `rules::verdict` meets its contract. Each arm's tests are those of `verdict_by`, in its order.
 use mathlib.Core.Path.{◌≡◌, sym, ◌∙◌}
-use Prim.Native.Nat.{◌<◌}
 use native.Mathlib.Omega.{arith}
 use borrow.Author.Tests.{ne_eqb}
-use borrow.Author.Rules.{rules}
 use Rattle.tables.specs.Lists.{read_count}
 use Rattle.tables.specs.Sites.{site_count}
 use Rattle.tables.specs.declared.Tables.{Tables}
@@ -27,8 +25,8 @@ held c = rw (cast_at c.args.marks.now c.args.t c.args.s (omega (arith, c.require
 -- whether they cover what t reads
 covered : (c : After-is_covered) → Held c.voters-held.result (cell 0 (the_cast c.args.marks.now) c.args.t c.args.s) (cell 0 c.args.carried.now c.args.t c.args.s) c.args.s
     → (T : Tables) → Plan T c.args.plan.now
-    → covered_in (cell 0 (the_cast c.args.marks.now) c.args.t c.args.s) (cell 0 c.args.carried.now c.args.t c.args.s) T.sizes T.masks T.groups T.reads (read_count T c.args.t) (site_count T) c.args.t c.args.s
-    ≡ c.is_covered.result
+    → covered_in (cell 0 (the_cast c.args.marks.now) c.args.t c.args.s) (cell 0 c.args.carried.now c.args.t c.args.s) T.sizes T.masks T.groups T.reads (read_count T c.args.t)
+    (site_count T) c.args.t c.args.s ≡ c.is_covered.result
 covered c h T p = sym (c.is_covered.ensures T (cell 0 (the_cast c.args.marks.now) c.args.t c.args.s) (cell 0 c.args.carried.now c.args.t c.args.s) c.args.s p h)
 
 -- whether they are all yes
@@ -44,12 +42,32 @@ returns-then-reads-eq0 c T p = rw (count (goal.at.returns-then-reads-eq0 c).Afte
 
 pub returns-then-is_all_yes : goal.returns-then-is_all_yes
 unfolding verdict_by
-returns-then-is_all_yes c T p = rw (covered (goal.at.returns-then-is_all_yes c).After-is_covered (held (goal.at.returns-then-is_all_yes c).After-voters-held) T p, c.if-is_covered.true, agreed (goal.at.returns-then-is_all_yes c).After-is_all_yes (held (goal.at.returns-then-is_all_yes c).After-voters-held) T p, c.if-is_all_yes.true, count (goal.at.returns-then-is_all_yes c).After-reads T p, ne_eqb _ _ c.if-reads-eq0.false)
+returns-then-is_all_yes c T p =
+    let h = held (goal.at.returns-then-is_all_yes c).After-voters-held in
+    rw (
+      covered (goal.at.returns-then-is_all_yes c).After-is_covered h T p,
+      c.if-is_covered.true,
+      agreed (goal.at.returns-then-is_all_yes c).After-is_all_yes h T p,
+      c.if-is_all_yes.true,
+      count (goal.at.returns-then-is_all_yes c).After-reads T p,
+      ne_eqb _ _ c.if-reads-eq0.false,
+    )
 
 pub returns-then-is_covered : goal.returns-then-is_covered
 unfolding verdict_by
-returns-then-is_covered c T p = rw (covered (goal.at.returns-then-is_covered c).After-is_covered (held (goal.at.returns-then-is_covered c).After-voters-held) T p, c.if-is_covered.true, agreed (goal.at.returns-then-is_covered c).After-is_all_yes (held (goal.at.returns-then-is_covered c).After-voters-held) T p, c.if-is_all_yes.false, count (goal.at.returns-then-is_covered c).After-reads T p, ne_eqb _ _ c.if-reads-eq0.false)
+returns-then-is_covered c T p =
+    let h = held (goal.at.returns-then-is_covered c).After-voters-held in
+    rw (
+      covered (goal.at.returns-then-is_covered c).After-is_covered h T p,
+      c.if-is_covered.true,
+      agreed (goal.at.returns-then-is_covered c).After-is_all_yes h T p,
+      c.if-is_all_yes.false,
+      count (goal.at.returns-then-is_covered c).After-reads T p,
+      ne_eqb _ _ c.if-reads-eq0.false,
+    )
 
 pub returns : goal.returns
 unfolding verdict_by
-returns c T p = rw (covered (goal.at.returns c).After-is_covered (held (goal.at.returns c).After-voters-held) T p, c.if-is_covered.false, count (goal.at.returns c).After-reads T p, ne_eqb _ _ c.if-reads-eq0.false)
+returns c T p =
+    let h = held (goal.at.returns c).After-voters-held in
+    rw (covered (goal.at.returns c).After-is_covered h T p, c.if-is_covered.false, count (goal.at.returns c).After-reads T p, ne_eqb _ _ c.if-reads-eq0.false)

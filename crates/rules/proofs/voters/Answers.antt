@@ -1,6 +1,4 @@
 -- `rules::voters` meets its contract. The set has s exactly if it has voted, and the others as they were.
-use borrow.Author.Tests.{le-ltb}
-use borrow.Author.Rules.{rules}
 use Rattle.rules.proofs.Votes.{held_with}
 use Rattle.rules.proofs.voters.Goals as goal
 
