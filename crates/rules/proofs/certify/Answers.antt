@@ -19,7 +19,7 @@ txn c = (omega (arith, c.requires.t_bound.0, c.requires.laid.txns), λ T p. omeg
 few : (c : In-loop-i) → c.loop-i.i - 1 < 8
 few c = omega (arith, c.loop-i.invariant.0, c.loop-i-test.true, c.requires.laid.reads c.args.t c.requires.t_bound.0)
 
--- what certifyIn says of the key looked at is what the code asks
+-- what certify_in says of the key looked at is what the code asks
 asked : (c : After-has_key) (T : Tables) → Plan T c.args.plan.now
     → (row_at T.reads c.args.t (c.loop-i.i - 1) ≡ c.read_key-k.result) × (site_keys T c.args.s ≡ c.site_set-m.result)
 asked c T p = (
