@@ -1,9 +1,9 @@
--- `listing::run` meets its contract. The invariant is where the run stands (`Running`), its state the one that the arrays hold; the measure is what is left of the schedule.
+-- The invariant is where the run stands (`Running`), its state the one that the arrays hold; the measure is what is left of the schedule.
 use Prim.Native.Nat.{◌-◌}
 use lib.ListN.{length}
 use Rattle.machine.specs.Lent.{state_of}
 use Rattle.listing.proofs.Laws.{Running}
-use Rattle.listing.proofs.run.Given as goal
+use Rattle.listing.proofs.run_planned.Given as goal
 
 abbrev pub invariant-loop-tag : goal.invariant-loop-tag
 invariant-loop-tag l =
