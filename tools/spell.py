@@ -12,9 +12,11 @@ backquotes, in README and docs/. Names of the library and of functions stay, and
 import glob
 import os
 import re
+import subprocess
 import sys
 
-KIT = "/opt/rattle/rattle"
+# the library beside the kit's first page
+KIT = os.path.join(os.path.dirname(subprocess.run(["rt", "doc"], stdout=subprocess.PIPE, text=True, check=True).stdout.strip()), "rattle")
 WORD = re.compile(r"[A-Za-z][\w'\-]*")
 LIBRARY = {"length", "get_or", "set", "drop", "take", "replicate", "map"}
 # A lemma about the count of reads that TXN gives, which has its definition's name in snake case.
