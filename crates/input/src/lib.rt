@@ -1,22 +1,25 @@
 // Reads into a lent buffer until it is full or there is no more.
 #![tactic(auto)]
 
-ghost use Rattle.std.specs.Prelude.{◌≤◌, length, IfOk};
+ghost use Rattle.std.specs.Prelude.{◌<◌, ◌≤◌, length, take, IfOk};
+ghost use Rattle.std.specs.Io.KnownBytes.{Consumes, IsAtEnd};
 
 use std::io;
 use std::io::Read;
 
-// How many bytes were read: fewer than there is room for only where the input ends.
+// How many bytes were read: those that the input gave, fewer than there is room for only where it ends.
 pub fn read_full<R: Read>(input: &mut R, buf: &mut [u8]) -> io::Result<usize>
-    ensures { IfOk result (λ n. n ≤ length buf.old) }
+    ensures bound { IfOk result (λ n. n ≤ length buf.old) }
+    ensures bytes { IfOk result (λ n. Consumes (R.remaining input.old) (R.remaining input.new) (take n buf.new)) }
+    ensures end { IfOk result (λ n. n < length buf.old → IsAtEnd (R.remaining input.new)) }
 {
-    let mut n = 0;
-    for _ in 0..u64::MAX {
-        let got = input.read(&mut buf[n..])?;
-        if got == 0 {
-            break;
+    let mut at = 0;
+    while at < buf.len() {
+        let n = input.read(&mut buf[at..])?;
+        if n == 0 {
+            return Ok(at);
         }
-        n += got;
+        at += n;
     }
-    Ok(n)
+    Ok(at)
 }

@@ -2,7 +2,6 @@
 #![tactic(auto)]
 
 ghost use Rattle.std.specs.Prelude.{◌≡◌, true, ◌+◌, ◌*◌, ◌^◌, ◌≤◌, ◌<◌, ◌++◌, length};
-ghost use Rattle.plan.specs.Plan.{Plan};
 ghost use Rattle.layout.specs.Layout.{the_versions, the_values, the_read_versions, the_read_values, the_places};
 ghost use Rattle.machine.specs.Lent.{state_of};
 ghost use Rattle.machine.specs.Fresh.{start_of, fresh_of};
@@ -20,50 +19,7 @@ use steps::{Place, Version};
 use tables::Tables;
 
 // The steps of a schedule one after the other, in the arrays that hold the state, a line for each answer; the answer is
-// the place after the lines.
-fn run_planned(
-    tables: &Tables,
-    plan: &[u64; 3666],
-    numbers: &mut [u32; 4224],
-    flags: &mut [bool; 3072],
-    marks: &mut [u8; 4096],
-    carried: &mut [u16; 2048],
-    schedule: &[u8],
-    out: &mut [u8],
-    at: usize,
-) -> usize
-    requires planned { Plan tables.now plan.now }
-    requires st_value { (usable (state_of tables.now numbers.old flags.old marks.old carried.old) ≡ true) × (length schedule.now ≤ 60000) }
-    requires schedule_bound { at + 12 * length schedule.now < 2 ^ 64 }
-    ensures state_value { state_of tables.now numbers.new flags.new marks.new carried.new ≡ end_of (state_of tables.now numbers.old flags.old marks.old carried.old) (steps_of schedule.now) }
-    ensures wrote { Wrote out.old at out.new result (step_lines 0 (answers_of (state_of tables.now numbers.old flags.old marks.old carried.old) (steps_of schedule.now))) }
-    ensures next_bound { result ≤ at + 12 * length schedule.now }
-{
-    let mut idle = false;
-    let mut next = at;
-    let mut i: u32 = 0;
-    let mut pos: usize = 0;
-    loop {
-        let found = records::record_from(schedule, pos);
-        let Record::Whole {
-            tag,
-            start,
-            len: _,
-            next: after,
-        } = found
-        else {
-            return next;
-        };
-        let x = files::step_by(tag, schedule, start);
-        let answer = machine::take_in(plan, numbers, flags, marks, carried, idle, x);
-        idle = machine::idle_after(idle, answer);
-        next = lines::put_step(out, next, i, answer);
-        i += 1;
-        pos = after;
-    }
-}
-
-// The same, with the plan of the tables, which takes its room for the run alone.
+// the place after the lines. The plan takes its room for the run alone.
 #[inline(never)]
 fn run(
     tables: &Tables,
@@ -81,17 +37,29 @@ fn run(
     ensures wrote { Wrote out.old at out.new result (step_lines 0 (answers_of (state_of tables.now numbers.old flags.old marks.old carried.old) (steps_of schedule.now))) }
     ensures next_bound { result ≤ at + 12 * length schedule.now }
 {
-    run_planned(
-        tables,
-        &plan::plan_of(*tables),
-        numbers,
-        flags,
-        marks,
-        carried,
-        schedule,
-        out,
-        at,
-    )
+    let plan = plan::plan_of(*tables);
+    let mut idle = false;
+    let mut next = at;
+    let mut i: u32 = 0;
+    let mut pos: usize = 0;
+    loop {
+        let found = records::record_from(schedule, pos);
+        let Record::Whole {
+            tag,
+            start,
+            len: _,
+            next: after,
+        } = found
+        else {
+            return next;
+        };
+        let x = files::step_by(tag, schedule, start);
+        let answer = machine::take_in(&plan, numbers, flags, marks, carried, idle, x);
+        idle = machine::idle_after(idle, answer);
+        next = lines::put_step(out, next, i, answer);
+        i += 1;
+        pos = after;
+    }
 }
 
 // ---- the listing

@@ -3,7 +3,7 @@ use Prim.Native.Nat.{◌-◌}
 use lib.ListN.{length}
 use Rattle.machine.specs.Lent.{state_of}
 use Rattle.listing.proofs.Laws.{Running}
-use Rattle.listing.proofs.run_planned.Given as goal
+use Rattle.listing.proofs.run.Given as goal
 
 abbrev pub invariant-loop-tag : goal.invariant-loop-tag
 invariant-loop-tag l =
