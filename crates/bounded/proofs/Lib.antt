@@ -1,3 +1,4 @@
 pub mod Truth
 pub mod Laws
 pub mod Lists
+pub mod Ranges

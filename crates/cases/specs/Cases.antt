@@ -1,14 +1,13 @@
 -- Cases A to K: one list, one claim.
-use Rattle.std.specs.Prelude.{ℕ, Bool, true, false, ◌&&◌, List, [], ◌∷◌, ◌≡◌, refl, eqb, take, drop}
+use Rattle.std.specs.Prelude.{ℕ, Bool, true, false, ◌&&◌, List, [], ◌∷◌, ◌≡◌, refl, eqb, take, drop, Ok, Err}
 use Prim.Native.String.{String}
 use Rattle.files.specs.Walk.{walk}
 use Rattle.files.specs.Cut.{cut_turn, cut_of}
-use Rattle.files.specs.Setup.{allowed, taken, ended, turn_of, setup_turn, read_setup}
+use Rattle.files.specs.Setup.{allowed, taken, ended, turn_of, setup_turn, read_from}
 use Rattle.files.specs.Schedule.{in_schedule, schedule_turn, read_schedule, step_by, steps_from, steps_of}
 use Rattle.files.specs.Rows.{with_keys, with_group, with_txn}
 use Rattle.files.specs.File.{file_of}
 use Rattle.files.specs.declared.File.{File}
-use Rattle.files.specs.declared.Outcome.TheVariants.{Fine, Refused}
 use Rattle.queues.specs.Queue.{head_in, blocked_in, next_in, submitted_in}
 use Rattle.lines.specs.Lines.{step_lines, verdict_in, item_lines, state_lines}
 use Rattle.bounded.specs.Bounded.{any_below, all_below, sum_below, first_below, first_of, list_from}
@@ -24,13 +23,15 @@ use Rattle.rules.specs.Fit.{counts_fit, row_fits, txn_fits, txns_fit, places_fit
 use Rattle.machine.specs.Usable.{usable}
 use Rattle.refusals.specs.Refusals.{read_refusal_in, submit_refusal_in, deliver_refusal_in, vote_refusal_in, carry_refusal_in, verdict_refusal_in, close_refusal_in, refusal_in}
 use Rattle.search.specs.Search.{first_closing_in, closes_first_in, first_delivering_in, first_carried_in, first_from_in, first_to_in, todo_in}
-use Rattle.machine.specs.Effects.{read_done, submit_done, deliver_done, carry_done, stored, committed, close_done}
+use Rattle.machine.specs.Effects.{read_done, submit_done, deliver_done, carry_done, committed, close_done}
+use Rattle.effects.specs.Stored.{stored}
+use Rattle.numbers.specs.Numbers.{file_refusal, step_refusal}
 use Rattle.machine.specs.Settle.{settle_for, settle_done}
 use Rattle.machine.specs.Steps.{done, decided, step_of}
 use Rattle.machine.specs.Fresh as Fresh
 use Rattle.machine.specs.declared.State.{State}
 use Rattle.machine.specs.Fresh.{fresh_of}
-use Rattle.records.specs.Number.{number, row}
+use Rattle.records.specs.Number.{number, row_of}
 use Rattle.records.specs.Record.{record_at}
 use Rattle.records.specs.Rule.{rule_of, values_fit, pairs_fit, fits}
 use Rattle.records.specs.Judge.{judge_at}
@@ -62,7 +63,7 @@ verdicts st = list_from 0 st.tables.txns (λ t. list_from 0 (site_count st.table
 
 -- of a file that is run, the verdicts at its end; of a refused one, none
 closed_by : List ℕ → File → List (List ℕ)
-closed_by schedule f = elim f.outcome [ Fine ↦ verdicts (end_of (fresh_of f.tables).state (steps_of schedule)) | Refused n at ↦ [] ]
+closed_by schedule f = elim f.outcome [ Ok _ ↦ verdicts (end_of (fresh_of f.tables).state (steps_of schedule)) | Err _ ↦ [] ]
 
 closed_of : List ℕ → List (List ℕ)
 closed_of file = let c = cut_of file in closed_by (drop c file) (file_of (take c file) (drop c file))
@@ -146,8 +147,8 @@ cases =
 
 pub computed : each_gives cases ≡ true
 unfolding each_gives cases gives_it closed_of closed_by verdicts sames same text hex_from listing_of lines_of step_lines verdict_in item_lines state_lines end_of answers_of digits_by digits_of fields_of line_of each
-    file_of schedule_turn read_schedule step_by steps_from steps_of taken ended turn_of setup_turn read_setup row with_keys with_group with_txn allowed in_schedule judge_at cut_turn cut_of walk rule_of values_fit pairs_fit fits record_at number
-    fresh_of Fresh.start_of done decided step_of first_closing_in closes_first_in first_delivering_in first_carried_in first_from_in first_to_in todo_in settle_for settle_done read_done submit_done deliver_done carry_done stored committed close_done
+    file_of schedule_turn read_schedule step_by steps_from steps_of taken ended turn_of setup_turn read_from file_refusal row_of with_keys with_group with_txn allowed in_schedule judge_at cut_turn cut_of walk rule_of values_fit pairs_fit fits record_at number
+    fresh_of Fresh.start_of step_refusal done decided step_of first_closing_in closes_first_in first_delivering_in first_carried_in first_from_in first_to_in todo_in settle_for settle_done read_done submit_done deliver_done carry_done stored committed close_done
     read_refusal_in submit_refusal_in deliver_refusal_in vote_refusal_in carry_refusal_in verdict_refusal_in close_refusal_in refusal_in counts_fit row_fits txn_fits txns_fit places_fit usable head_in blocked_in next_in submitted_in certify_in covers_key covered_in all_yes_in verdict_by room_in
     in_row twice present meets conflict_in some_in all_in touches inside local keys_from keys_refusal size_refusal count_refusal key_refusal txn_refusal some_group end_refusal judge no_tables
     member within adding any_below all_below sum_below first_below first_of list_from

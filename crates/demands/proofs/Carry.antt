@@ -30,7 +30,7 @@ use Rattle.demands.proofs.Cells.{cell, cell_in, cell_put}
 use Rattle.demands.proofs.View.{known, inv_of, placed_of, view_of, plan_of, world_of, Sound}
 use Rattle.demands.proofs.Sized.{Arrays}
 
-module _ (st : State) (g : Taken st.tables) (z : Arrays st) (t from to : ℕ) (h : Carries st.tables st.cast st.carried t from to) where
+module _ (st : State) (g : Taken st.tables) (z : Arrays st) (t from to : ℕ) (h : Carries st.tables st.parts.cast st.parts.carried t from to) where
   abbrev T : Tables
   T = st.tables
 
@@ -56,14 +56,14 @@ module _ (st : State) (g : Taken st.tables) (z : Arrays st) (t from to : ℕ) (h
       m : ℕ
       m = adding (carried_to st t to) from
 
-      carried : (a b : ℕ) → cell 16 0 (with_carried st t from to).carried b a ≡ at2 (λ a b. cell 16 0 st.carried b a) to t m a b
-      carried a b = cell_put 16 0 st.carried t to m near (omega (arith, z.carried, g.txns, h.txn, near)) a b
+      carried : (a b : ℕ) → cell 16 0 (with_carried st t from to).parts.carried b a ≡ at2 (λ a b. cell 16 0 st.parts.carried b a) to t m a b
+      carried a b = cell_put 16 0 st.parts.carried t to m near (omega (arith, z.carried, g.txns, h.txn, near)) a b
 
       held : (b f a : ℕ) → (view_of T (with_carried st t from to)).held b f a ≡ at3 v.held t from to true b f a
-      held b f a = elim (look2 (λ a b. cell 16 0 st.carried b a) to t m a b) [
+      held b f a = elim (look2 (λ a b. cell 16 0 st.parts.carried b a) to t m a b) [
         | inl q ↦ rw (carried a b, q.2, q.0, q.1) (elim (same f from) [
           | inl e ↦ rw (e, at3_same v.held t from to true, ne_eqb from to h.differ) (adding_same (carried_to st t to) from h.lacks)
-          | inr e ↦ rw (at3_other v.held t from to true t f to (λ x. e x.1), adding_other (carried_to st t to) from f e h.lacks, cell_in 16 0 st.carried t to near)
+          | inr e ↦ rw (at3_other v.held t from to true t f to (λ x. e x.1), adding_other (carried_to st t to) from f e h.lacks, cell_in 16 0 st.parts.carried t to near)
         ])
         | inr q ↦ rw (at3_other v.held t from to true b f a (λ x. q.0 (x.2, x.0)), carried a b, q.1)
       ]
@@ -74,11 +74,11 @@ unfolding world_of carry_done counter
 carry_step st t from to g z e =
     let T = st.tables in
     let v = view_of T st in
-    let h = carry_has st.tables st.cast st.carried t from to e in
-    subst (λ (x : View). Ends (plan_of T) (world_of T st) (record { view = x; ord = submitted_in st.places T.txns })) (sym (view_carry st g z t from to h))
+    let h = carry_has st.tables st.parts.cast st.parts.carried t from to e in
+    subst (λ (x : View). Ends (plan_of T) (world_of T st) (record { view = x; ord = submitted_in st.parts.places T.txns })) (sym (view_carry st g z t from to h))
     (move (carry_v (view_of T st) t from to) (Rules.carry t from to refl h.global h.differ
-    (rw (cell_in 16 0 st.cast t from (omega (arith, g.sites, h.giver))) (let v = h.voted in omega arith)) h.concerned
-    (rw (cell_in 16 0 st.cast t to (near st g z t from to h), cell_in 16 0 st.carried t to (near st g z t from to h), ne_eqb from to h.differ) h.lacks)))
+    (rw (cell_in 16 0 st.parts.cast t from (omega (arith, g.sites, h.giver))) (let v = h.voted in omega arith)) h.concerned
+    (rw (cell_in 16 0 st.parts.cast t to (near st g z t from to h), cell_in 16 0 st.parts.carried t to (near st g z t from to h), ne_eqb from to h.differ) h.lacks)))
 
 -- and the other way round
 pub carry_back : (st : State) (t from to : ℕ) → Taken st.tables → Sound st
@@ -91,6 +91,6 @@ carry_back st t from to g w lo d c co h =
     let dl = i.cast_delivered from t c in
     let f = known T from t (i.delivered_concerns from t dl) in
     let b = known T to t co in
-    let x : cast_by st t from ≡ (view_of T st).cast from t = sym (cell_in 16 0 st.cast t from (omega (arith, g.sites))) in
-    let y : member (carried_to st t to) from ≡ false = rw (ne_eqb from to d, cell_in 16 0 st.carried t to (omega (arith, g.sites))) at h in
+    let x : cast_by st t from ≡ (view_of T st).cast from t = sym (cell_in 16 0 st.parts.cast t from (omega (arith, g.sites))) in
+    let y : member (carried_to st t to) from ≡ false = rw (ne_eqb from to d, cell_in 16 0 st.parts.carried t to (omega (arith, g.sites))) at h in
     rw (lt-leb T.txns t (placed_of T st w t (i.delivered_placed from t dl)), lt-leb (site_count T) from f, lt-leb (site_count T) to b, co, lo, ne_eqb from to d, ne_eqb (cast_by st t from) 0 (λ e. omega arith), y)

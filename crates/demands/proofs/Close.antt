@@ -26,11 +26,12 @@ use Rattle.machine.specs.Parts.{version_at, value_at, with_closed}
 use Rattle.machine.specs.Rules.{at_head, verdict, room_at}
 use Rattle.machine.specs.Usable.{usable}
 use Rattle.machine.specs.Refusals.{close_refusal}
-use Rattle.machine.specs.Effects.{stored, committed, close_done}
+use Rattle.effects.specs.Stored.{stored}
+use Rattle.machine.specs.Effects.{committed, close_done}
 use Rattle.machine.specs.declared.State.{State}
 use Rattle.search.proofs.Closes.{close_has}
 use Rattle.machine.specs.Settle.{parts_of}
-use Rattle.machine.proofs.Stores.{stored_other}
+use Rattle.effects.proofs.Stores.{stored_other, stored_length, stored_at}
 use Rattle.machine.proofs.Laws.{row_apart}
 use Rattle.onecopy.specs.Copy.{bump}
 use Rattle.onecopy.specs.View.{View}
@@ -47,31 +48,9 @@ use Rattle.demands.proofs.Cells.{cell_in, cell_put}
 use Rattle.demands.proofs.View.{listed_put, known, inv_of, placed_of, rules_of, view_of, plan_of, world_of, Sound}
 use Rattle.demands.proofs.Verdict.{verdict_known, verdict_is, head_get, head_put}
 use Rattle.demands.proofs.Bound.{version_most}
-use Rattle.demands.proofs.Sized.{Arrays, stored_length}
+use Rattle.demands.proofs.Sized.{Arrays}
 
 -- ---- the stores of a commit
-
-module _ {A : Type 0} (T : Tables) (t s : ℕ) (d : A) (f : ℕ → A → A) (l : List A) where
-  -- the cell of the i-th written key, where s holds it
-  pub stored_at : (n i : ℕ) → i < n → ((j : ℕ) → j < n → write_key T t i ≡ write_key T t j → i ≡ j) → holds T s (write_key T t i) ≡ true → s * 64 + write_key T t i < length l
-      → get_or (stored T t s d f l n) (s * 64 + write_key T t i) d ≡ f i (get_or l (s * 64 + write_key T t i) d)
-  unfolding stored
-  stored_at zero i b u h k = absurd (omega arith)
-  stored_at (suc n) i b u h k = by (same i n) (stored_at n i)
-    where
-      P : ℕ → Type 0
-      P n = get_or (stored T t s d f l n) (s * 64 + write_key T t i) d ≡ f i (get_or l (s * 64 + write_key T t i) d)
-
-      last : (b : Bool) → (i ≡ n → ⊥) → P n
-          → get_or (cond b (set (stored T t s d f l n) (s * 64 + write_key T t n) (f n (get_or l (s * 64 + write_key T t n) d))) (stored T t s d f l n)) (s * 64 + write_key T t i) d ≡ f i (get_or l (s * 64 + write_key T t i) d)
-      last true m e = get_or-set_other (stored T t s d f l n) (s * 64 + write_key T t n) (s * 64 + write_key T t i) (f n (get_or l (s * 64 + write_key T t n) d)) d (λ q. m (u n (omega arith) (omega arith))) ∙ e
-      last false m e = e
-
-      by : (i ≡ n) ⊎ (i ≡ n → ⊥) → (i < n → ((j : ℕ) → j < n → write_key T t i ≡ write_key T t j → i ≡ j) → holds T s (write_key T t i) ≡ true → s * 64 + write_key T t i < length l → P n)
-          → get_or (cond (holds T s (write_key T t n)) (set (stored T t s d f l n) (s * 64 + write_key T t n) (f n (get_or l (s * 64 + write_key T t n) d))) (stored T t s d f l n)) (s * 64 + write_key T t i) d
-          ≡ f i (get_or l (s * 64 + write_key T t i) d)
-      by (inl e) r = rw (← e, h) (get_or-set_same (stored T t s d f l i) (s * 64 + write_key T t i) (f i (get_or l (s * 64 + write_key T t i) d)) d (omega (arith, stored_length T t s d f l i)))
-      by (inr e) r = last (holds T s (write_key T t n)) e (r (omega arith) (λ j q. u j (omega arith)) h k)
 
 -- ---- the view after a CLOSE
 
@@ -93,8 +72,8 @@ module _ (st : State) (g : Taken st.tables) (z : Arrays st) (t s c : ℕ) (txn :
       → ◌≡◌ {A = ℕ × ℕ} (version_at (committed st t s) a k, value_at (committed st t s) a k) (version_at st a k, value_at st a k)
   unfolding committed
   kept a k h ne = λ j. (
-    (stored_other T t s (version 0) (λ i v. version (v.0 + 1)) st.versions n (a * 64 + k) apart_from j).0,
-    stored_other T t s 0 (λ i x. write_value T t i) st.values n (a * 64 + k) apart_from j,
+    (stored_other T t s (version 0) (λ i v. version (v.0 + 1)) st.parts.versions n (a * 64 + k) apart_from j).0,
+    stored_other T t s 0 (λ i x. write_value T t i) st.parts.values n (a * 64 + k) apart_from j,
   )
     where
       apart_from : (i : ℕ) → i < n → holds T s (write_key T t i) ≡ true → a * 64 + k ≡ s * 64 + write_key T t i → ⊥
@@ -110,8 +89,8 @@ module _ (st : State) (g : Taken st.tables) (z : Arrays st) (t s c : ℕ) (txn :
       let i = slot T.writes t n k in
       let u : (j : ℕ) → j < n → write_key T t i ≡ write_key T t j → i ≡ j = λ j m q. row_apart T.writes t n i j (g.writes t txn).once l m q in
       let b : s * 64 + write_key T t i < 1024 = omega (arith, near, (g.writes t txn).low i l, g.keys) in
-      let x = stored_at T t s (version 0) (λ i v. version (v.0 + 1)) st.versions n i l u (rw e h) (omega (arith, z.versions)) in
-      let y = stored_at T t s 0 (λ i x. write_value T t i) st.values n i l u (rw e h) (omega (arith, z.values)) in
+      let x = stored_at T t s (version 0) (λ i v. version (v.0 + 1)) st.parts.versions n i l u (rw e h) (omega (arith, z.versions)) in
+      let y = stored_at T t s 0 (λ i x. write_value T t i) st.parts.values n i l u (rw e h) (omega (arith, z.values)) in
       let p : version_at (committed st t s) s (write_key T t i) ≡ suc (version_at st s (write_key T t i)) = ap (λ (v : Version). v.0) x ∙ add-one (version_at st s (write_key T t i)) in
       subst (λ k. ◌≡◌ {A = ℕ × ℕ} (version_at (committed st t s) s k, value_at (committed st t s) s k) (suc (version_at st s k), write_value T t i)) e (λ j. (p j, y j))
 
@@ -141,7 +120,7 @@ module _ (st : State) (g : Taken st.tables) (z : Arrays st) (t s c : ℕ) (txn :
       ]
 
   shut : (a b : ℕ) → (view_of T (with_closed st t s c)).closed a b ≡ at2 v.closed s t c a b
-  shut a b = cell_put 16 0 st.closed t s c near (omega (arith, z.closed, g.txns, txn, near)) a b
+  shut a b = cell_put 16 0 st.parts.closed t s c near (omega (arith, z.closed, g.txns, txn, near)) a b
 
   -- where the stores are f
   stored_view : (f : ℕ → ℕ → ℕ × ℕ) → ((a k : ℕ) → f a k ≡ (close_v (table_of T) v s t c).store a k)
@@ -180,8 +159,8 @@ close_step st t s g z w e =
     let h = close_has st.tables (parts_of st) t s e in
     let near : s < 16 = omega (arith, g.sites, h.site) in
     let d = Rules.close s t c refl (record {
-      here = cell_in 16 false st.delivered t s near ∙ h.delivered;
-      opened = cell_in 16 0 st.closed t s near ∙ h.unclosed;
+      here = cell_in 16 false st.parts.delivered t s near ∙ h.delivered;
+      opened = cell_in 16 0 st.parts.closed t s near ∙ h.unclosed;
       known = verdict_known st g w t s h.txn near h.known;
       head = λ q. head_get st g w t s h.txn near (h.head q);
     }) in
@@ -190,7 +169,7 @@ close_step st t s g z w e =
       ord = submitted_in (places (eqb c 1) j) T.txns;
     })) (move (close_v (table_of T) (view_of T st) s t c) d)
   where
-    places : (b : Bool) → (with_closed (cond b (committed st t s) st) t s (verdict st t s)).places ≡ st.places
+    places : (b : Bool) → (with_closed (cond b (committed st t s) st) t s (verdict st t s)).parts.places ≡ st.parts.places
     places true = unfold committed in refl
     places false = refl
 
@@ -203,8 +182,8 @@ close_back st t s c ok g w h = rw (
   lt-leb st.tables.txns t txn,
   lt-leb (site_count st.tables) s site,
   concerned,
-  sym (cell_in 16 0 st.closed t s near) ∙ h.opened,
-  sym (cell_in 16 false st.delivered t s near) ∙ h.here,
+  sym (cell_in 16 0 st.parts.closed t s near) ∙ h.opened,
+  sym (cell_in 16 false st.parts.delivered t s near) ∙ h.here,
   verdict_is st g w t s txn near c h.known,
 ) (last (same c 1))
   where

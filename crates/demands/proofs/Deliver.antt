@@ -9,7 +9,7 @@ use lib.Dec.{eqb, ltb, leb}
 use lib.ListN.{get_or}
 use borrow.Author.Tests.{eqb-true, eqb-false, eq-eqb, ne_eqb, ltb-true, lt-ltb, leb-false, lt-leb, not-true}
 use Rattle.queues.specs.Queue.{waits, next_in, blocked_in, submitted_in}
-use Rattle.layout.specs.Cells.{place_in, nobody}
+use Rattle.parts.specs.Cells.{place_in, nobody}
 use Rattle.bounded.proofs.Truth.{and-true, and_put, or-true, or_left, or_right, bool, clash, same, passed}
 use Rattle.bounded.proofs.Laws.{any_get, any_put, first-is, any_lack, all_same}
 use Rattle.tables.specs.Lists.{in_row, meets, read_count, read_key, write_count, conflict_in, conflict}
@@ -95,7 +95,7 @@ next-is st s g h =
     let (a, h1) = passed 21 (omega arith) (leb (site_count T) s) _ h in
     let (b, h2) = passed 26 (omega arith) (eqb (next_at st s) nobody) _ h1 in
     let c = (passed 27 (omega arith) (blocked st (next_at st s) s) 0 h2).0 in
-    elim (first-is T.txns (place_in st.places) (pending st s) nobody g.txns) [
+    elim (first-is T.txns (place_in st.parts.places) (pending st s) nobody g.txns) [
       | inr q ↦ absurd (eqb-false (next_at st s) nobody b q.0)
       | inl f ↦
           let t = next_at st s in
@@ -124,12 +124,12 @@ module _ (st : State) (g : Taken st.tables) (w : Sound st) (s t : ℕ) (n : Next
 
   pub offered : Offered (table_of T) v s t
   offered = record {
-    fresh = cell_in 16 false st.delivered t s near ∙ n.fresh;
+    fresh = cell_in 16 false st.parts.delivered t s near ∙ n.fresh;
     placed = n.placed;
     concerned = n.concerned;
     next = λ u c p l. elim (bool (v.delivered s u)) [
       | inl e ↦ e
-      | inr e ↦ absurd (omega (arith, n.least u (placed_of T st w u p) p (sym (cell_in 16 false st.delivered u s near) ∙ e) c))
+      | inr e ↦ absurd (omega (arith, n.least u (placed_of T st w u p) p (sym (cell_in 16 false st.parts.delivered u s near) ∙ e) c))
     ];
   }
 
@@ -137,24 +137,24 @@ module _ (st : State) (g : Taken st.tables) (w : Sound st) (s t : ℕ) (n : Next
   unfolding blocked_in
   admitted b u q c = clash
       (any_put T.txns (λ u. queued st s u && conflict T t u) u (placed_of T st w u ((inv_of T st w).delivered_placed s u q.0))
-      (rw (sym (cell_in 16 false st.delivered u s near) ∙ q.0, sym (cell_in 16 0 st.closed u s near) ∙ q.1, conflict_put T t u c))) b
+      (rw (sym (cell_in 16 false st.parts.delivered u s near) ∙ q.0, sym (cell_in 16 0 st.parts.closed u s near) ∙ q.1, conflict_put T t u c))) b
 
   -- the vote is the theory's
   pub vote_is : vote_r (rules_of T) v s t ≡ vote_of st t s
   unfolding certify_by vote_by certify_in
   vote_is = rw (lt-ltb t T.txns n.txn) (ap (λ b. cond (votes T t s) (cond b 1 2) 0)
-      (all_same (read_count T t) (matching T (v.seen t) (v.store s) s t) (λ i. not (holds T s (read_key T t i)) || current st.versions st.readversions st.recorded T.reads t s i) each))
+      (all_same (read_count T t) (matching T (v.seen t) (v.store s) s t) (λ i. not (holds T s (read_key T t i)) || current st.parts.versions st.parts.readversions st.parts.recorded T.reads t s i) each))
     where
-      each : (i : ℕ) → i < read_count T t → matching T (v.seen t) (v.store s) s t i ≡ (not (holds T s (read_key T t i)) || current st.versions st.readversions st.recorded T.reads t s i)
+      each : (i : ℕ) → i < read_count T t → matching T (v.seen t) (v.store s) s t i ≡ (not (holds T s (read_key T t i)) || current st.parts.versions st.parts.readversions st.parts.recorded T.reads t s i)
       each i l =
           let k = read_key T t i in
           let b : i < 8 = omega (arith, (g.reads t n.txn).few) in
           let e : place T t k ≡ i = slot_at T.reads t (read_count T t) i (g.reads t n.txn).few (g.reads t n.txn).once l in
           let d : v.recorded t k ≡ true = (inv_of T st w).placed_recorded t k n.placed (listed_put T.txns t (read_count T t) i T.reads n.txn l) in
-          let r : get_or st.recorded (t * 8 + i) false ≡ true = rw (e, cell_in 8 false st.recorded t i b) at d in
+          let r : get_or st.parts.recorded (t * 8 + i) false ≡ true = rw (e, cell_in 8 false st.parts.recorded t i b) at d in
           elim (bool (holds T s k)) [
             | inr h ↦ rw h
-            | inl h ↦ rw (h, r, e, cell_in 8 (version 0) st.readversions t i b)
+            | inl h ↦ rw (h, r, e, cell_in 8 (version 0) st.parts.readversions t i b)
           ]
 
   pub view_deliver : Arrays st → (c : ℕ) → view_of T (with_delivery st t s c) ≡ deliver_v v s t c
@@ -163,7 +163,7 @@ module _ (st : State) (g : Taken st.tables) (w : Sound st) (s t : ℕ) (n : Next
     order = v.order;
     seen = v.seen;
     recorded = v.recorded;
-    delivered = fun_ext (λ a. fun_ext (λ b. cell_put 16 false st.delivered t s true near (omega (arith, z.delivered, g.txns, n.txn, near)) a b)) j;
+    delivered = fun_ext (λ a. fun_ext (λ b. cell_put 16 false st.parts.delivered t s true near (omega (arith, z.delivered, g.txns, n.txn, near)) a b)) j;
     closed = v.closed;
     cast = fun_ext (λ a. fun_ext (λ b. cast a b)) j;
     held = fun_ext (λ b. fun_ext (λ f. fun_ext (λ a. held b f a))) j;
@@ -171,7 +171,7 @@ module _ (st : State) (g : Taken st.tables) (w : Sound st) (s t : ℕ) (n : Next
   }
     where
       cast : (a b : ℕ) → (view_of T (with_delivery st t s c)).cast a b ≡ at2 v.cast s t c a b
-      cast a b = cell_put 16 0 st.cast t s c near (omega (arith, z.cast, g.txns, n.txn, near)) a b
+      cast a b = cell_put 16 0 st.parts.cast t s c near (omega (arith, z.cast, g.txns, n.txn, near)) a b
 
       held : (b f a : ℕ) → (view_of T (with_delivery st t s c)).held b f a ≡ at3 v.held t s s (ltb 0 c) b f a
       held b f a = elim (look2 v.cast s t c a b) [
@@ -191,7 +191,7 @@ deliver_step st s g z w h =
     let (n, b) = next-is st s g h in
     let e : view_of T (with_delivery st t s (vote_of st t s)) ≡ deliver_v (view_of T st) s t (vote_r (rules_of T) (view_of T st) s t) =
     view_deliver st g w s t n z (vote_of st t s) ∙ ap (λ c. deliver_v (view_of T st) s t c) (sym (vote_is st g w s t n)) in
-    subst (λ (x : View). Ends (plan_of T) (world_of T st) (record { view = x; ord = submitted_in st.places T.txns })) (sym e)
+    subst (λ (x : View). Ends (plan_of T) (world_of T st) (record { view = x; ord = submitted_in st.parts.places T.txns })) (sym e)
     (move (deliver_v (view_of T st) s t (vote_r (rules_of T) (view_of T st) s t)) (Rules.deliver s t refl (offered st g w s t n) (admitted st g w s t n b)))
 
 -- ---- and the other way round
@@ -215,10 +215,10 @@ deliver_back st s t g w o a = rw (lt-leb (site_count st.tables) s site, is_t, ne
     txn = placed_of st.tables st w t o.placed
 
     waits_t : pending st s t ≡ true
-    waits_t = waits_put (place_of st t) (delivered_at st t s) (concerns st.tables t s) o.placed (sym (cell_in 16 false st.delivered t s near) ∙ o.fresh) o.concerned
+    waits_t = waits_put (place_of st t) (delivered_at st t s) (concerns st.tables t s) o.placed (sym (cell_in 16 false st.parts.delivered t s near) ∙ o.fresh) o.concerned
 
     is_t : next_at st s ≡ t
-    is_t = unfold next_in in elim (first-is st.tables.txns (place_in st.places) (pending st s) nobody g.txns) [
+    is_t = unfold next_in in elim (first-is st.tables.txns (place_in st.parts.places) (pending st s) nobody g.txns) [
       | inr q ↦ clash waits_t (q.1 t txn)
       | inl f ↦
           let u = next_at st s in
@@ -226,7 +226,7 @@ deliver_back st s t g w o a = rw (lt-leb (site_count st.tables) s site, is_t, ne
           let l : place_of st u ≤ place_of st t = f.least t txn waits_t in
           elim (same (place_of st u) (place_of st t)) [
             | inl e ↦ sym ((inv_of st.tables st w).at_place u x) ∙ ap (view_of st.tables st).order.at e ∙ (inv_of st.tables st w).at_place t o.placed
-            | inr e ↦ clash (o.next u c x (omega arith)) (cell_in 16 false st.delivered u s near ∙ y)
+            | inr e ↦ clash (o.next u c x (omega arith)) (cell_in 16 false st.parts.delivered u s near ∙ y)
           ]
     ]
 
@@ -234,4 +234,4 @@ deliver_back st s t g w o a = rw (lt-leb (site_count st.tables) s site, is_t, ne
     free = unfold blocked_in in any_lack st.tables.txns (λ u. queued st s u && conflict st.tables t u) (λ u l q.
         let (b, c) = and-true (queued st s u) (conflict st.tables t u) q in
         let (d, e) = and-true (delivered_at st u s) (eqb (closed_at st u s) 0) b in
-        a u (cell_in 16 false st.delivered u s near ∙ d, cell_in 16 0 st.closed u s near ∙ eqb-true (closed_at st u s) 0 e) (conflict_get st.tables t u txn l c))
+        a u (cell_in 16 false st.parts.delivered u s near ∙ d, cell_in 16 0 st.parts.closed u s near ∙ eqb-true (closed_at st u s) 0 e) (conflict_get st.tables t u txn l c))

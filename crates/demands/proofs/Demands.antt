@@ -5,9 +5,9 @@ use mathlib.Core.Path.{◌≡◌}
 use mathlib.Core.List.{List}
 use Rattle.tables.specs.Judge.{judge}
 use Rattle.tables.specs.declared.Tables.{Tables}
-use Rattle.steps.specs.declared.Answer.{Answer}
+use Rattle.steps.specs.Answers.{Answered}
 use Rattle.steps.specs.declared.Step.{Step}
-use Rattle.machine.specs.Effects.{giving}
+use Rattle.machine.specs.Effects.{answering}
 use Rattle.machine.specs.Fresh.{fresh_of}
 use Rattle.machine.specs.Usable.{usable}
 use Rattle.machine.specs.declared.State.{State}
@@ -40,7 +40,7 @@ pub protocol : (st : State) → Arrays st → Demand2 st
 protocol = Protocols.demand2
 
 -- and the protocol leaves no choice
-pub no_choice : (st : State) → Arrays st → usable st ≡ true → (x : Step) (a b : Answer) (n o : State) → Protocol st x a n → Protocol st x b o → giving a n ≡ giving b o
+pub no_choice : (st : State) → Arrays st → usable st ≡ true → (x : Step) (a b : Answered) (n o : State) → Protocol st x a n → Protocol st x b o → answering a n ≡ answering b o
 no_choice = Determined.determined
 
 -- demand 3: from fresh, after any steps, refused ones included

@@ -13,6 +13,7 @@ use lib.Dec.{eqb}
 use lib.ListN.{get_or}
 use lib.Seq.{ext_get_or}
 use borrow.Author.Tests.{eqb-true, eqb-false, lt-ltb}
+use Rattle.std.specs.Prelude.{Ok}
 use Rattle.queues.specs.Queue.{submitted_in}
 use Rattle.bounded.specs.Bounded.{sum_below}
 use Rattle.bounded.proofs.Truth.{bool, same}
@@ -24,16 +25,16 @@ use Rattle.tables.specs.declared.Tables.{Tables}
 use Rattle.steps.specs.Kinds.{version, place}
 use Rattle.steps.specs.declared.Step.{Step}
 use Rattle.steps.specs.declared.Step.TheVariants as step
-use Rattle.steps.specs.declared.Answer.{Answer}
+use Rattle.steps.specs.Answers.{Answered}
 use Rattle.steps.specs.declared.Answer.TheVariants as answer
 use Rattle.machine.specs.Parts.{place_of, version_at, value_at}
 use Rattle.machine.specs.Rules.{verdict}
 use Rattle.machine.specs.Usable.{usable}
-use Rattle.machine.specs.Effects.{giving}
+use Rattle.machine.specs.Effects.{answering}
 use Rattle.machine.specs.Steps.{done}
 use Rattle.machine.specs.declared.State.{State}
 use Rattle.machine.specs.declared.Stepped.{Stepped}
-use Rattle.search.specs.declared.Todo.TheVariants as todo
+use Rattle.search.specs.Search as todo
 use Rattle.machine.proofs.Laws.{usable_has}
 use Rattle.machine.proofs.Settle.{after_usable}
 use Rattle.demands.specs.Protocol.{Writes, Holds, Only, Votes, Aborts, MayCommit, Permits, NoClose, NoDeliver, NoCarry, SameStores, Stores, SameReads, SameQueues, SameVotes, DoesRead, Submitted, none, placed, other, DoesSubmit, DoesDeliver, DoesCarry, DoesClose, First, close, deliver, carry, Does, Settling, over, go, Protocol}
@@ -93,28 +94,30 @@ module _ {st x y : State} where
   votes_left p q = record { cast = via p.cast q.cast; carried = via p.carried q.carried }
 
 -- results equal in every part are equal
-made : {a b : Answer} {x y : State} → a ≡ b → x.tables ≡ y.tables → SameStores y x → SameReads y x → SameQueues y x → SameVotes y x → giving a x ≡ giving b y
+made : {a b : Answered} {x y : State} → a ≡ b → x.tables ≡ y.tables → SameStores y x → SameReads y x → SameQueues y x → SameVotes y x → answering a x ≡ answering b y
 made e t p r q v = λ j. record {
   answer = e j;
   next = record {
     tables = t j;
-    versions = p.versions j;
-    values = p.values j;
-    recorded = r.recorded j;
-    readversions = r.readversions j;
-    readvalues = r.readvalues j;
-    places = q.places j;
-    delivered = q.delivered j;
-    closed = q.closed j;
-    cast = v.cast j;
-    carried = v.carried j;
+    parts = record {
+      versions = p.versions j;
+      values = p.values j;
+      recorded = r.recorded j;
+      readversions = r.readversions j;
+      readvalues = r.readvalues j;
+      places = q.places j;
+      delivered = q.delivered j;
+      closed = q.closed j;
+      cast = v.cast j;
+      carried = v.carried j;
+    };
   };
 }
 
 -- ---- step by step
 
 -- how many were submitted
-counted_is : {st : State} {n m : ℕ} → Submitted st n m → m ≡ submitted_in st.places n
+counted_is : {st : State} {n m : ℕ} → Submitted st n m → m ≡ submitted_in st.parts.places n
 unfolding submitted_in sum_below
 counted_is none = refl
 counted_is {st = st} (placed {n = n} r l) = rw (lt-ltb 0 (place_of st n) l, add-one) (ap suc (counted_is r))
@@ -139,9 +142,9 @@ module _ (st : State) (h : usable st ≡ true) where
   -- the stores of a commit
   stored_same : {x y : State} {s t : ℕ} → Stores st x s t → Stores st y s t → SameStores y x
   stored_same {x} {y} {s} {t} p q = record {
-    versions = ext_get_or (version 0) x.versions y.versions (via p.long.0 q.long.0) (λ j b. let e : j ≡ j / 64 * 64 + j % 64 = omega arith in
+    versions = ext_get_or (version 0) x.parts.versions y.parts.versions (via p.long.0 q.long.0) (λ j b. let e : j ≡ j / 64 * 64 + j % 64 = omega arith in
         rw e (λ i. record { 0 = (cells (j / 64) (j % 64) (omega arith)).0 i }));
-    values = ext_get_or 0 x.values y.values (via p.long.1 q.long.1) (λ j b. let e : j ≡ j / 64 * 64 + j % 64 = omega arith in rw e (cells (j / 64) (j % 64) (omega arith)).1);
+    values = ext_get_or 0 x.parts.values y.parts.values (via p.long.1 q.long.1) (λ j b. let e : j ≡ j / 64 * 64 + j % 64 = omega arith in rw e (cells (j / 64) (j % 64) (omega arith)).1);
   }
     where
       cells : (r k : ℕ) → k < 64 → (version_at x r k ≡ version_at y r k) × (value_at x r k ≡ value_at y r k)
@@ -161,35 +164,35 @@ module _ (st : State) (h : usable st ≡ true) where
           changed : Says (eqb r s && (in_row T.writes t (write_count T t) k && holds T s k)) ((r ≡ s) × (Writes T t k × Holds T s k))
           changed = and_says (eq_says r s) (and_says (row_says T.writes t (write_count T t) k) Iff.rfl)
 
-  read_same : {t i s : ℕ} {a b : Answer} {n o : State} → n.tables ≡ o.tables → DoesRead st t i s a n → DoesRead st t i s b o → giving a n ≡ giving b o
+  read_same : {t i s : ℕ} {a b : Answered} {n o : State} → n.tables ≡ o.tables → DoesRead st t i s a n → DoesRead st t i s b o → answering a n ≡ answering b o
   read_same e p q = made (via p.answered q.answered) e (stores_left p.stores q.stores) (record {
     recorded = only_same refl refl p.recorded q.recorded;
     readversions = only_same refl refl p.readversions q.readversions;
     readvalues = only_same refl refl p.readvalues q.readvalues;
   }) (queues_left p.queues q.queues) (votes_left p.votes q.votes)
 
-  submit_same : {t : ℕ} {a b : Answer} {n o : State} → n.tables ≡ o.tables → DoesSubmit st t a n → DoesSubmit st t b o → giving a n ≡ giving b o
+  submit_same : {t : ℕ} {a b : Answered} {n o : State} → n.tables ≡ o.tables → DoesSubmit st t a n → DoesSubmit st t b o → answering a n ≡ answering b o
   submit_same e p q =
       let c : p.count ≡ q.count = via (counted_is p.counted) (counted_is q.counted) in
-      made (p.answered ∙ ap (λ c. answer.Submitted (place (suc c))) c ∙ sym q.answered) e (stores_left p.stores q.stores) (reads_left p.reads q.reads) (record {
+      made (p.answered ∙ ap (λ c. Ok (answer.Submitted (place (suc c)))) c ∙ sym q.answered) e (stores_left p.stores q.stores) (reads_left p.reads q.reads) (record {
         places = only_same refl (ap (λ c. place (suc c)) c) p.places q.places;
         delivered = via p.delivered q.delivered;
         closed = via p.closed q.closed;
       }) (votes_left p.votes q.votes)
 
-  deliver_same : {s : ℕ} {a b : Answer} {n o : State} → n.tables ≡ o.tables → DoesDeliver st s a n → DoesDeliver st s b o → giving a n ≡ giving b o
+  deliver_same : {s : ℕ} {a b : Answered} {n o : State} → n.tables ≡ o.tables → DoesDeliver st s a n → DoesDeliver st s b o → answering a n ≡ answering b o
   deliver_same {s} e p q =
       let low = (usable_has st h).txns in
       let t : p.txn ≡ q.txn = sym ((next_says st low s p.txn).1 p.may.0).0 ∙ ((next_says st low s q.txn).1 q.may.0).0 in
       let v : p.vote ≡ q.vote = vote_same p.votes (subst (λ t. Votes st s t q.vote) (sym t) q.votes) in
       let i : p.txn * 16 + s ≡ q.txn * 16 + s = ap (λ t. t * 16 + s) t in
-      made (p.answered ∙ (λ j. answer.Delivered (t j) (v j)) ∙ sym q.answered) e (stores_left p.stores q.stores) (reads_left p.reads q.reads) (record {
+      made (p.answered ∙ (λ j. Ok (answer.Delivered (t j) (v j))) ∙ sym q.answered) e (stores_left p.stores q.stores) (reads_left p.reads q.reads) (record {
         places = via p.places q.places;
         delivered = only_same i refl p.delivered q.delivered;
         closed = via p.closed q.closed;
       }) (record { cast = only_same i v p.cast q.cast; carried = via p.carried q.carried })
 
-  carry_same : {t from to : ℕ} {a b : Answer} {n o : State} → n.tables ≡ o.tables → DoesCarry st t from to a n → DoesCarry st t from to b o → giving a n ≡ giving b o
+  carry_same : {t from to : ℕ} {a b : Answered} {n o : State} → n.tables ≡ o.tables → DoesCarry st t from to a n → DoesCarry st t from to b o → answering a n ≡ answering b o
   carry_same {t} {from} e p q = made (via p.answered q.answered) e (stores_left p.stores q.stores) (reads_left p.reads q.reads) (queues_left p.queues q.queues) (record {
     cast = via p.cast q.cast;
     carried = only_same refl (members (p.held + q.held) p.held q.held (omega arith) (omega arith) (λ f. elim (same f from) [
@@ -198,10 +201,10 @@ module _ (st : State) (h : usable st ≡ true) where
     ])) p.carried q.carried;
   })
 
-  close_same : {t s : ℕ} {a b : Answer} {n o : State} → n.tables ≡ o.tables → DoesClose st t s a n → DoesClose st t s b o → giving a n ≡ giving b o
+  close_same : {t s : ℕ} {a b : Answered} {n o : State} → n.tables ≡ o.tables → DoesClose st t s a n → DoesClose st t s b o → answering a n ≡ answering b o
   close_same {t} {s} {n = n} {o} e p q =
       let v : p.verdict ≡ q.verdict = via (known p.does) (known q.does) in
-      made (p.answered ∙ ap answer.Closed v ∙ sym q.answered) e (left p.does q.does) (reads_left p.reads q.reads) (record {
+      made (p.answered ∙ ap (λ c. Ok (answer.Closed c)) v ∙ sym q.answered) e (left p.does q.does) (reads_left p.reads q.reads) (record {
         places = via p.places q.places;
         delivered = via p.delivered q.delivered;
         closed = only_same refl v p.closed q.closed;
@@ -221,7 +224,7 @@ module _ (st : State) (h : usable st ≡ true) where
       left (inr a) (inr b) = stores_left a.2 b.2
 
   -- what a step other than SETTLE does
-  does_same : (x : Step) {a b : Answer} {n o : State} → Does st x a n → Does st x b o → giving a n ≡ giving b o
+  does_same : (x : Step) {a b : Answered} {n o : State} → Does st x a n → Does st x b o → answering a n ≡ answering b o
   does_same (step.Read t i s) p q = read_same (via p.0 q.0) p.1 q.1
   does_same (step.Submit t) p q = submit_same (via p.0 q.0) p.1 q.1
   does_same (step.Deliver s) p q = deliver_same (via p.0 q.0) p.1 q.1
@@ -300,8 +303,8 @@ settling_same {st} (go {next = next} {x = x} a f d r) z h (go {next = onward} {e
     (ap suc i, l)
 
 -- any two results that the protocol allows coincide, in the answer and in every part of the next state
-pub determined : (st : State) → Arrays st → usable st ≡ true → (x : Step) (a b : Answer) (n o : State)
-    → Protocol st x a n → Protocol st x b o → giving a n ≡ giving b o
+pub determined : (st : State) → Arrays st → usable st ≡ true → (x : Step) (a b : Answered) (n o : State)
+    → Protocol st x a n → Protocol st x b o → answering a n ≡ answering b o
 determined st z h (step.Read t i s) a b n o p q = does_same st h (step.Read t i s) p q
 determined st z h (step.Submit t) a b n o p q = does_same st h (step.Submit t) p q
 determined st z h (step.Deliver s) a b n o p q = does_same st h (step.Deliver s) p q
@@ -309,4 +312,4 @@ determined st z h (step.Carry t from to) a b n o p q = does_same st h (step.Carr
 determined st z h (step.Close t s) a b n o p q = does_same st h (step.Close t s) p q
 determined st z h step.Settle a b n o p q =
     let (e, d) = settling_same p.2 z h q.2 in
-    λ j. record { answer = (p.1 ∙ ap answer.Settled e ∙ sym q.1) j; next = d j }
+    λ j. record { answer = (p.1 ∙ ap (λ c. Ok (answer.Settled c)) e ∙ sym q.1) j; next = d j }

@@ -12,6 +12,7 @@ use lib.Dec.{eqb, ltb}
 use lib.ListN.{length, set, length-set}
 use lib.Seq.{get_or-set_same, get_or-set_other}
 use borrow.Author.Tests.{eqb-true, eqb-false, ltb-true, ltb-false}
+use Rattle.std.specs.Prelude.{Ok}
 use Rattle.queues.specs.Queue.{submitted_in}
 use Rattle.bounded.specs.Bounded.{sum_below}
 use Rattle.bounded.proofs.Truth.{bool}
@@ -32,13 +33,12 @@ use Rattle.machine.specs.Refusals.{refusal}
 use Rattle.machine.specs.Effects.{read_done, submit_done, deliver_done, carry_done, committed, close_done}
 use Rattle.machine.specs.Steps.{done}
 use Rattle.machine.specs.declared.State.{State}
-use Rattle.search.specs.declared.Todo.TheVariants as todo
+use Rattle.search.specs.Search as todo
 use Rattle.machine.proofs.Laws.{Usable, usable_has, row_apart}
 use Rattle.demands.specs.Protocol.{Holds, Writes, Only, MayDeliver, MayCommit, Aborts, Permits, Stores, DoesRead, Submitted, none, placed, other, DoesSubmit, DoesDeliver, DoesCarry, DoesClose, Does}
 use Rattle.demands.proofs.Cells as Cells
-use Rattle.demands.proofs.Sized.{Arrays, stored_length, after_tables}
-use Rattle.machine.proofs.Stores.{stored_other}
-use Rattle.demands.proofs.Close.{stored_at}
+use Rattle.demands.proofs.Sized.{Arrays, after_tables}
+use Rattle.effects.proofs.Stores.{stored_other, stored_length, stored_at}
 use Rattle.demands.proofs.Notions.{next_says, votes_is, commits_says, aborts_says}
 use Rattle.demands.proofs.Permits.{permitted}
 
@@ -50,12 +50,12 @@ only_set : {A : Type 0} (d : A) (l : List A) (i : ℕ) (x : A) → i < length l 
 only_set d l i x h = record { there = get_or-set_same l i x d h; others = λ j n. get_or-set_other l i j x d n; long = length-set l i x }
 
 -- how many were submitted
-counts : (st : State) (n : ℕ) → Submitted st n (submitted_in st.places n)
+counts : (st : State) (n : ℕ) → Submitted st n (submitted_in st.parts.places n)
 unfolding submitted_in sum_below
 counts st zero = none
 counts st (suc n) = by (ltb 0 (place_of st n)) refl (counts st n)
   where
-    by : (b : Bool) → ltb 0 (place_of st n) ≡ b → Submitted st n (submitted_in st.places n) → Submitted st (suc n) (submitted_in st.places n + cond b 1 0)
+    by : (b : Bool) → ltb 0 (place_of st n) ≡ b → Submitted st n (submitted_in st.parts.places n) → Submitted st (suc n) (submitted_in st.parts.places n + cond b 1 0)
     by true e r = rw add-one (placed r (ltb-true 0 (place_of st n) e))
     by false e r = rw add-zero (other r (omega (arith, ltb-false 0 (place_of st n) e)))
 
@@ -69,9 +69,9 @@ module _ (st : State) (z : Arrays st) (u : Usable st) where
       let b : t * 8 + i < 1024 = omega (arith, p.0, p.1, u.txns, (u.reads t p.0).few) in
       record {
         answered = refl;
-        recorded = only_set false st.recorded (t * 8 + i) true (omega (arith, z.recorded));
-        readversions = only_set (version 0) st.readversions (t * 8 + i) (version (version_at st s (read_key T t i))) (omega (arith, z.readversions));
-        readvalues = only_set 0 st.readvalues (t * 8 + i) (value_at st s (read_key T t i)) (omega (arith, z.readvalues));
+        recorded = only_set false st.parts.recorded (t * 8 + i) true (omega (arith, z.recorded));
+        readversions = only_set (version 0) st.parts.readversions (t * 8 + i) (version (version_at st s (read_key T t i))) (omega (arith, z.readversions));
+        readvalues = only_set 0 st.parts.readvalues (t * 8 + i) (value_at st s (read_key T t i)) (omega (arith, z.readvalues));
         stores = record { versions = refl; values = refl };
         queues = record { places = refl; delivered = refl; closed = refl };
         votes = record { cast = refl; carried = refl };
@@ -83,8 +83,8 @@ module _ (st : State) (z : Arrays st) (u : Usable st) where
     count = submitted st;
     counted = counts st T.txns;
     answered = rw add-one;
-    places = subst (λ n. Only (place 0) st.places (set st.places t (place n)) t (place (suc (submitted st)))) (sym (add-one (submitted st)))
-        (only_set (place 0) st.places t (place (suc (submitted st))) (omega (arith, z.places, u.txns, p.0)));
+    places = subst (λ n. Only (place 0) st.parts.places (set st.parts.places t (place n)) t (place (suc (submitted st)))) (sym (add-one (submitted st)))
+        (only_set (place 0) st.parts.places t (place (suc (submitted st))) (omega (arith, z.places, u.txns, p.0)));
     delivered = refl;
     closed = refl;
     stores = record { versions = refl; values = refl };
@@ -104,8 +104,8 @@ module _ (st : State) (z : Arrays st) (u : Usable st) where
         may = may;
         votes = votes_is st s t;
         answered = refl;
-        delivered = only_set false st.delivered (t * 16 + s) true (omega (arith, z.delivered));
-        cast = only_set 0 st.cast (t * 16 + s) (vote_of st t s) (omega (arith, z.cast));
+        delivered = only_set false st.parts.delivered (t * 16 + s) true (omega (arith, z.delivered));
+        cast = only_set 0 st.parts.cast (t * 16 + s) (vote_of st t s) (omega (arith, z.cast));
         places = refl;
         closed = refl;
         carried = refl;
@@ -121,7 +121,7 @@ module _ (st : State) (z : Arrays st) (u : Usable st) where
       record {
         answered = refl;
         held = adding m from;
-        carried = only_set 0 st.carried (t * 16 + to) (adding m from) (omega (arith, z.carried, p.0, p.2, u.txns, u.sites));
+        carried = only_set 0 st.parts.carried (t * 16 + to) (adding m from) (omega (arith, z.carried, p.0, p.2, u.txns, u.sites));
         given = adding_same m from lacks;
         others = λ f d. adding_other m from f d lacks;
         cast = refl;
@@ -137,14 +137,14 @@ module _ (st : State) (z : Arrays st) (u : Usable st) where
     raised = λ i l h.
         let once : (j : ℕ) → j < n → write_key T t i ≡ write_key T t j → i ≡ j = λ j m q. row_apart T.writes t n i j (u.writes t txn).once l m q in
         let b : s * 64 + write_key T t i < 1024 = omega (arith, (u.writes t txn).low i l, u.keys) in (
-          ap (λ (v : Version). v.0) (stored_at T t s (version 0) (λ i v. version (v.0 + 1)) st.versions n i l once h (omega (arith, z.versions))) ∙ add-one (version_at st s (write_key T t i)),
-          stored_at T t s 0 (λ i x. write_value T t i) st.values n i l once h (omega (arith, z.values)),
+          ap (λ (v : Version). v.0) (stored_at T t s (version 0) (λ i v. version (v.0 + 1)) st.parts.versions n i l once h (omega (arith, z.versions))) ∙ add-one (version_at st s (write_key T t i)),
+          stored_at T t s 0 (λ i x. write_value T t i) st.parts.values n i l once h (omega (arith, z.values)),
         );
     others = λ r k b d. let away = outside r k b d in (
-      ap (λ (v : Version). v.0) (stored_other T t s (version 0) (λ i v. version (v.0 + 1)) st.versions n (r * 64 + k) away),
-      stored_other T t s 0 (λ i x. write_value T t i) st.values n (r * 64 + k) away,
+      ap (λ (v : Version). v.0) (stored_other T t s (version 0) (λ i v. version (v.0 + 1)) st.parts.versions n (r * 64 + k) away),
+      stored_other T t s 0 (λ i x. write_value T t i) st.parts.values n (r * 64 + k) away,
     );
-    long = (stored_length T t s (version 0) (λ i v. version (v.0 + 1)) st.versions n, stored_length T t s 0 (λ i x. write_value T t i) st.values n);
+    long = (stored_length T t s (version 0) (λ i v. version (v.0 + 1)) st.parts.versions n, stored_length T t s 0 (λ i x. write_value T t i) st.parts.values n);
   }
     where
       n : ℕ
@@ -162,10 +162,10 @@ module _ (st : State) (z : Arrays st) (u : Usable st) where
       v : ℕ
       v = verdict st t s
 
-      b : t * 16 + s < length st.closed
+      b : t * 16 + s < length st.parts.closed
       b = omega (arith, z.closed, p.0, p.2.0, u.txns, u.sites)
 
-      by : (c : Bool) → eqb v 1 ≡ c → MayCommit st s t ⊎ Aborts st s t → DoesClose st t s (answer.Closed v) (with_closed (cond c (committed st t s) st) t s v)
+      by : (c : Bool) → eqb v 1 ≡ c → MayCommit st s t ⊎ Aborts st s t → DoesClose st t s (Ok (answer.Closed v)) (with_closed (cond c (committed st t s) st) t s v)
       by true e m = unfold committed in record {
         verdict = v;
         answered = refl;
@@ -173,7 +173,7 @@ module _ (st : State) (z : Arrays st) (u : Usable st) where
           | inl x ↦ inl (eqb-true v 1 e, x, stores_do t s v p.2.0 (omega (arith, u.sites, p.0)))
           | inr x ↦ absurd (omega (arith, eqb-true v 1 e, (aborts_says st s t).1 x))
         ];
-        closed = only_set 0 st.closed (t * 16 + s) v b;
+        closed = only_set 0 st.parts.closed (t * 16 + s) v b;
         places = refl;
         delivered = refl;
         reads = record { recorded = refl; readversions = refl; readvalues = refl };
@@ -186,7 +186,7 @@ module _ (st : State) (z : Arrays st) (u : Usable st) where
           | inl x ↦ absurd (eqb-false v 1 e ((commits_says st s t).1 x.0))
           | inr x ↦ inr ((aborts_says st s t).1 x, x, record { versions = refl; values = refl })
         ];
-        closed = only_set 0 st.closed (t * 16 + s) v b;
+        closed = only_set 0 st.parts.closed (t * 16 + s) v b;
         places = refl;
         delivered = refl;
         reads = record { recorded = refl; readversions = refl; readvalues = refl };

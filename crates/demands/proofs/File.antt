@@ -10,11 +10,11 @@ use lib.ListN.{length, take, drop}
 use types.Run.{OneOf, hit, miss}
 use borrow.Author.Tests.{leb-true, leb-false}
 use Rattle.files.specs.Cut.{cut_of}
-use Rattle.files.specs.declared.Outcome.{Outcome}
+use Rattle.std.specs.Prelude.{Result, Ok, Err}
+use Rattle.numbers.specs.Numbers.{file_number as number_of}
+use Rattle.files.specs.declared.Refused.{Refused}
 use Rattle.files.proofs.Agrees.{file_judged}
 use Rattle.files.proofs.Numbers.{file_numbers_lem, file_refused}
-use Rattle.files.specs.declared.Outcome.TheVariants as outcome
-use Rattle.records.proofs.Laws.{apart}
 use Rattle.listing.specs.Listing.{Listing, refused, listed, lines_of, list_by, listing_of}
 use Rattle.demands.specs.File.{read_of, schedule_in, Listed, file_numbers, came_of, Demand1}
 use Rattle.demands.proofs.OneCopy.{every_state_one_copy}
@@ -23,20 +23,20 @@ pub every_listing : (file bytes : List ℕ) → listing_of file ≡ listed bytes
 unfolding listing_of lines_of
 every_listing file bytes = by (read_of file).outcome refl
   where
-    by : (o : Outcome) → (read_of file).outcome ≡ o → list_by (cut_of file) (read_of file).tables (drop (cut_of file) file) o ≡ listed bytes → Listed file bytes
-    by outcome.Fine e h =
+    by : (o : Result (Unit {0}) Refused) → (read_of file).outcome ≡ o → list_by (cut_of file) (read_of file).tables (drop (cut_of file) file) o ≡ listed bytes → Listed file bytes
+    by (Ok _) e h =
         let j = file_judged (take (cut_of file) file) (drop (cut_of file) file) e in
         let q : lines_of (read_of file).tables (drop (cut_of file) file) ≡ bytes = cc in
         record { taken = j; lines = sym q; one_copy = every_state_one_copy (read_of file).tables j (schedule_in file) }
-    by (outcome.Refused n at) e h = absurd (apart (cc))
+    by (Err r) e h = absurd (cc)
 
 file_number : (file : List ℕ) (n at : ℕ) → listing_of file ≡ refused n at → OneOf file_numbers_lem n
 unfolding listing_of
 file_number file n at = by (read_of file).outcome refl
   where
-    by : (o : Outcome) → (read_of file).outcome ≡ o → list_by (cut_of file) (read_of file).tables (drop (cut_of file) file) o ≡ refused n at → OneOf file_numbers_lem n
-    by outcome.Fine e h = absurd (apart (cc))
-    by (outcome.Refused m w) e h = let q : m ≡ n = cc in subst (OneOf file_numbers_lem) q (file_refused (take (cut_of file) file) (drop (cut_of file) file) m w e).number
+    by : (o : Result (Unit {0}) Refused) → (read_of file).outcome ≡ o → list_by (cut_of file) (read_of file).tables (drop (cut_of file) file) o ≡ refused n at → OneOf file_numbers_lem n
+    by (Ok _) e h = absurd (cc)
+    by (Err r) e h = let q : number_of r.why ≡ n = cc in subst (OneOf file_numbers_lem) q (file_refused (take (cut_of file) file) (drop (cut_of file) file) r e).number
 
 -- those and 9
 wider : (n : ℕ) → OneOf file_numbers_lem n → OneOf file_numbers n

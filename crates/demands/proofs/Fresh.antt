@@ -62,7 +62,7 @@ module _ (T : Tables) (g : Taken T) where
   pub unplaced : (t : ℕ) → place_of (start_of T) t ≡ 0
   unplaced t = unfold start_of in ap (λ (x : Place). x.0) (all_same 128 (place 0) t)
 
-  nobody_yet : submitted_in (start_of T).places T.txns ≡ 0
+  nobody_yet : submitted_in (start_of T).parts.places T.txns ≡ 0
   unfolding submitted_in
   nobody_yet = sum-zero T.txns (λ t. cond (ltb 0 (place_of (start_of T) t)) 1 0) (λ t l. rw (unplaced t))
 

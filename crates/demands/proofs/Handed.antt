@@ -18,8 +18,8 @@ use Rattle.machine.specs.Effects.{read_done, submit_done, deliver_done, carry_do
 use Rattle.machine.specs.Settle.{after}
 use Rattle.machine.specs.Fresh.{start_of}
 use Rattle.machine.specs.declared.State.{State}
-use Rattle.search.specs.declared.Todo.{Todo}
-use Rattle.search.specs.declared.Todo.TheVariants.{Close, Deliver, Carry, Nothing}
+use Rattle.search.specs.Search.{Todo}
+use Rattle.search.specs.Search.{Close, Deliver, Carry, Nothing}
 use Rattle.machine.proofs.Settle.{Accepted}
 use Rattle.onecopy.proofs.Base.{at2, look2}
 use Rattle.demands.proofs.Tables.{Taken}
@@ -30,7 +30,7 @@ use Rattle.demands.proofs.Carry.{near}
 
 -- the vote of f on t was carried to a
 abbrev pub carried : State → ℕ → ℕ → ℕ → Bool
-carried st t f a = member (cell 16 0 st.carried t a) f
+carried st t f a = member (cell 16 0 st.parts.carried t a) f
 
 pub record Handed (T : Tables) (st : State) : Type 0 where
   pub concerned : (t f a : ℕ) → carried st t f a ≡ true → concerns T t a ≡ true
@@ -38,7 +38,7 @@ pub record Handed (T : Tables) (st : State) : Type 0 where
   pub differ : (t f a : ℕ) → carried st t f a ≡ true → f ≡ a → ⊥
 
 -- a state in which nothing more was carried
-same_handed : (T : Tables) (st next : State) → next.carried ≡ st.carried → Handed T st → Handed T next
+same_handed : (T : Tables) (st next : State) → next.parts.carried ≡ st.parts.carried → Handed T st → Handed T next
 same_handed T st next e h = record {
   concerned = λ t f a c. h.concerned t f a (rw e at c);
   global = λ t f a c. h.global t f a (rw e at c);
@@ -63,7 +63,7 @@ pub after_handed : (st : State) (x : Todo) → Arrays st → Taken st.tables →
 unfolding deliver_done carry_done close_done
 after_handed st (Close t s) z g q h = same_handed st.tables st (close_done st t s).next (by (eqb (verdict st t s) 1)) h
   where
-    by : (b : Bool) → (with_closed (cond b (committed st t s) st) t s (verdict st t s)).carried ≡ st.carried
+    by : (b : Bool) → (with_closed (cond b (committed st t s) st) t s (verdict st t s)).parts.carried ≡ st.parts.carried
     by true = unfold committed in refl
     by false = refl
 after_handed st (Deliver s) z g q h = record { concerned = h.concerned; global = h.global; differ = h.differ }
@@ -74,18 +74,18 @@ after_handed st (Carry t from to) z g q h = record {
   differ = λ b f a c. elim (new b f a c) [ inl e ↦ λ d. k.differ (sym e.1 ∙ d ∙ e.2) | inr e ↦ h.differ b f a e ];
 }
   where
-    k : Carries st.tables st.cast st.carried t from to
-    k = carry_has st.tables st.cast st.carried t from to q
+    k : Carries st.tables st.parts.cast st.parts.carried t from to
+    k = carry_has st.tables st.parts.cast st.parts.carried t from to q
 
     m : ℕ
     m = adding (carried_to st t to) from
 
     -- what was carried before, or this one
     new : (b f a : ℕ) → carried (after st (Carry t from to)) b f a ≡ true → ((b ≡ t) × (f ≡ from) × (a ≡ to)) ⊎ (carried st b f a ≡ true)
-    new b f a c = elim (look2 (λ a b. cell 16 0 st.carried b a) to t m a b) [
+    new b f a c = elim (look2 (λ a b. cell 16 0 st.parts.carried b a) to t m a b) [
       | inl e ↦ elim (same f from) [
         | inl d ↦ inl (e.1, d, e.0)
-        | inr d ↦ inr (rw (e.0, e.1, cell_in 16 0 st.carried t to there) (sym (adding_other (carried_to st t to) from f d k.lacks) ∙ subst (λ x. member x f ≡ true) (put a b ∙ e.2) c))
+        | inr d ↦ inr (rw (e.0, e.1, cell_in 16 0 st.parts.carried t to there) (sym (adding_other (carried_to st t to) from f d k.lacks) ∙ subst (λ x. member x f ≡ true) (put a b ∙ e.2) c))
       ]
       | inr e ↦ inr (subst (λ x. member x f ≡ true) (put a b ∙ e.1) c)
     ]
@@ -93,5 +93,5 @@ after_handed st (Carry t from to) z g q h = record {
         there : to < 16
         there = near st g z t from to k
 
-        put : (a b : ℕ) → cell 16 0 (set st.carried (t * 16 + to) m) b a ≡ at2 (λ a b. cell 16 0 st.carried b a) to t m a b
-        put a b = cell_put 16 0 st.carried t to m there (omega (arith, z.carried, g.txns, k.txn, there)) a b
+        put : (a b : ℕ) → cell 16 0 (set st.parts.carried (t * 16 + to) m) b a ≡ at2 (λ a b. cell 16 0 st.parts.carried b a) to t m a b
+        put a b = cell_put 16 0 st.parts.carried t to m there (omega (arith, z.carried, g.txns, k.txn, there)) a b

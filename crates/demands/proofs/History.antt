@@ -13,7 +13,7 @@ use Rattle.tables.specs.Judge.{judge}
 use Rattle.tables.specs.declared.Tables.{Tables}
 use Rattle.steps.specs.declared.Step.{Step}
 use Rattle.steps.specs.declared.Step.TheVariants.{Read, Submit, Deliver, Carry, Close, Settle}
-use Rattle.steps.specs.declared.Answer.{Answer}
+use Rattle.steps.specs.Answers.{Answered}
 use Rattle.refusals.specs.Refusals.{refusal_in}
 use Rattle.machine.specs.Parts.{place_of}
 use Rattle.machine.specs.Usable.{usable}
@@ -23,8 +23,8 @@ use Rattle.machine.specs.Settle.{after, settle_done}
 use Rattle.machine.specs.Steps.{refused, done, decided, step_of}
 use Rattle.machine.specs.Fresh.{start_of, fresh_of}
 use Rattle.machine.specs.declared.State.{State}
-use Rattle.search.specs.declared.Todo.{Todo}
-use Rattle.search.specs.declared.Todo.TheVariants as todo
+use Rattle.search.specs.Search.{Todo}
+use Rattle.search.specs.Search as todo
 use Rattle.machine.proofs.Settle.{Accepted}
 use Rattle.listing.specs.Run.{end_of}
 use Rattle.onecopy.proofs.Base.{sum-zero}
@@ -73,7 +73,7 @@ module _ (T : Tables) (g : Taken T) where
     done_counts (Close t s) e = unfold close_done in one (todo.Close t s) e tt
     done_counts Settle e =
         let q = settle_run T g st h in
-        moved st (settle_done st).next q.steps h q.stands q.runs ∙ ap (λ (a : Answer). steps_in a + steps_done st) (sym q.answers)
+        moved st (settle_done st).next q.steps h q.stands q.runs ∙ ap (λ (a : Answered). steps_in a + steps_done st) (sym q.answers)
 
     step_counts : (x : Step) → steps_done (step_of st x).next ≡ steps_in (step_of st x).answer + steps_done st
     unfolding step_of decided

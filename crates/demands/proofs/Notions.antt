@@ -11,7 +11,7 @@ use lib.Dec.{eqb, ltb}
 use lib.ListN.{get_or}
 use borrow.Author.Tests.{eqb-true, eqb-false, eq-eqb, ne_eqb, ltb-true, lt-ltb}
 use Rattle.queues.specs.Queue.{precedes, head_in, blocked_in, waits, next_in}
-use Rattle.layout.specs.Cells.{place_in, nobody}
+use Rattle.parts.specs.Cells.{place_in, nobody}
 use Rattle.bounded.specs.Bounded.{any_below, all_below}
 use Rattle.bounded.proofs.Truth.{bool}
 use Rattle.keys.specs.Keys.{member}
@@ -133,18 +133,18 @@ module _ (st : State) where
       n = T.txns
 
       rank : ℕ → ℕ
-      rank = place_in st.places
+      rank = place_in st.parts.places
 
   -- ---- votes and verdicts
 
   -- t's i-th read does not keep s from a yes
   abbrev certified : ℕ → ℕ → ℕ → Bool
-  certified s t i = not (holds T s (read_key T t i)) || current st.versions st.readversions st.recorded T.reads t s i
+  certified s t i = not (holds T s (read_key T t i)) || current st.parts.versions st.parts.readversions st.parts.recorded T.reads t s i
 
-  pub certifies_says : (s t : ℕ) → (certify_in st.versions st.readversions st.recorded T.reads (read_count T t) t s (site_keys T s) ≡ 1) ↔ Certifies st s t
+  pub certifies_says : (s t : ℕ) → (certify_in st.parts.versions st.parts.readversions st.parts.recorded T.reads (read_count T t) t s (site_keys T s) ≡ 1) ↔ Certifies st s t
   unfolding certify_in
   certifies_says s t = by (all_says (read_count T t) (certified s t)
-      (λ i l. implies_says Iff.rfl (and_says Iff.rfl (eq_says (version_at st s (read_key T t i)) (get_or st.readversions (t * 8 + i) (version 0)).0))))
+      (λ i l. implies_says Iff.rfl (and_says Iff.rfl (eq_says (version_at st s (read_key T t i)) (get_or st.parts.readversions (t * 8 + i) (version 0)).0))))
     where
       by : {b : Bool} {P : Type 0} → Says b P → (◌≡◌ {A = ℕ} (cond b 1 2) 1) ↔ P
       by {b} p = (λ h. p.0 (one b h), λ x. rw (p.1 x))
@@ -176,7 +176,7 @@ module _ (st : State) where
   covered_at s t = covered_in (cast_by st t s) (carried_to st t s) T.sizes T.masks T.groups T.reads (read_count T t) (site_count T) t s
 
   abbrev pub agreed : ℕ → ℕ → Bool
-  agreed s t = all_yes_in st.cast (carried_to st t s) (site_count T) t s
+  agreed s t = all_yes_in st.parts.cast (carried_to st t s) (site_count T) t s
 
   pub covered_says : (s t : ℕ) → Says (covered_at s t) (Covered st s t)
   unfolding covered_in covers_key

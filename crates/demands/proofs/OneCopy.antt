@@ -47,7 +47,7 @@ module _ (st : State) (g : Taken st.tables) (r : Reached (plan_of st.tables) (wo
 
   -- the view's parts are the state's
   closed_is : (t s : ℕ) → s < site_count T → v.closed s t ≡ closed_at st t s
-  closed_is t s l = cell_in 16 0 st.closed t s (omega (arith, g.sites))
+  closed_is t s l = cell_in 16 0 st.parts.closed t s (omega (arith, g.sites))
 
   copy_is : (p k : ℕ) → single (table_of T) v p k ≡ copy_of st p k
   copy_is p k = ap (λ (c : ℕ → Bool). one_copy (table_of T) (order_of st) c p k)
@@ -56,7 +56,7 @@ module _ (st : State) (g : Taken st.tables) (r : Reached (plan_of st.tables) (wo
   seen-is : (t i : ℕ) → t < T.txns → i < read_count T t → v.seen t (read_key T t i) ≡ returned st t i
   seen-is t i a l =
       let b : i < 8 = omega (arith, (g.reads t a).few) in
-      rw (slot_at T.reads t (read_count T t) i (g.reads t a).few (g.reads t a).once l, cell_in 8 (version 0) st.readversions t i b, cell_in 8 0 st.readvalues t i b)
+      rw (slot_at T.reads t (read_count T t) i (g.reads t a).few (g.reads t a).once l, cell_in 8 (version 0) st.parts.readversions t i b, cell_in 8 0 st.parts.readvalues t i b)
 
   -- its reads match exactly if those of its view do
   matches_get : (t : ℕ) → t < T.txns → Theory.Matches (table_of T) v t → Matches st t

@@ -8,7 +8,7 @@ use mathlib.Core.Logic.{◌⊎◌, inl, inr, ◌↔◌}
 use native.Mathlib.Omega.{arith}
 use lib.Dec.{eqb, ltb, leb}
 use borrow.Author.Tests.{eqb-false, ne_eqb, ltb-false, leb-false, lt-leb, not-false}
-use Rattle.layout.specs.Cells.{nobody}
+use Rattle.parts.specs.Cells.{nobody}
 use Rattle.bounded.proofs.Truth.{or-false, passed}
 use Rattle.tables.specs.Lists.{read_count}
 use Rattle.tables.specs.Sites.{site_count}

@@ -7,10 +7,14 @@ use native.Mathlib.Omega.{arith}
 use borrow.Author.Tests.{ne_eqb}
 use Rattle.steps.specs.declared.Step.{Step}
 use Rattle.steps.specs.declared.Step.TheVariants.{Read, Submit, Deliver, Carry, Close, Settle}
-use Rattle.steps.specs.declared.Answer.TheVariants as answer
+use Rattle.std.specs.Prelude.{Err}
+use Rattle.numbers.specs.Numbers.{step_number, step_refusal}
+use Rattle.numbers.specs.declared.StepRefusal.{StepRefusal}
+use Rattle.numbers.specs.declared.StepRefusal.TheVariants.{Unusable}
+use Rattle.numbers.proofs.Laws.{step_refuses}
 use Rattle.machine.specs.Usable.{usable}
 use Rattle.machine.specs.Refusals.{refusal}
-use Rattle.machine.specs.Effects.{giving}
+use Rattle.machine.specs.Effects.{answering}
 use Rattle.machine.specs.Steps.{done, decided, step_of}
 use Rattle.machine.specs.declared.State.{State}
 use Rattle.machine.specs.declared.Stepped.{Stepped}
@@ -21,18 +25,22 @@ use Rattle.demands.proofs.Permits.{permitted}
 use Rattle.demands.proofs.Does.{differ, does}
 use Rattle.demands.proofs.Settling.{settles}
 
+-- no refusal has the number 0
+above : (r : StepRefusal) → 0 < step_number r
+above r = let h = step_refuses r in omega arith
+
 module _ (st : State) where
-  unusable : usable st ≡ false → (x : Step) → step_of st x ≡ giving (answer.Refused 10) st
+  unusable : usable st ≡ false → (x : Step) → step_of st x ≡ answering (Err Unusable) st
   unfolding step_of
-  unusable h x = rw h
+  unusable h x = unfold step_refusal in rw h
 
   accepted : usable st ≡ true → (x : Step) → refusal st x ≡ 0 → step_of st x ≡ done st x
   unfolding step_of
   accepted h x e = rw h (taken st x e)
 
-  refused : usable st ≡ true → (x : Step) → (refusal st x ≡ 0 → ⊥) → (n : ℕ) × (0 < n) × (step_of st x ≡ giving (answer.Refused n) st)
+  refused : usable st ≡ true → (x : Step) → (refusal st x ≡ 0 → ⊥) → (r : StepRefusal) × (0 < step_number r) × (step_of st x ≡ answering (Err r) st)
   unfolding step_of decided
-  refused h x d = (refusal st x, omega arith, rw (h, ne_eqb (refusal st x) 0 d))
+  refused h x d = (step_refusal (refusal st x), above (step_refusal (refusal st x)), rw (h, ne_eqb (refusal st x) 0 d))
 
 module _ (st : State) (z : Arrays st) (h : usable st ≡ true) where
   -- what a permitted step does

@@ -20,7 +20,7 @@ use Rattle.machine.specs.Steps.{refused, done, decided, step_of}
 use Rattle.machine.specs.Fresh.{fresh_of}
 use Rattle.machine.specs.declared.State.{State}
 use Rattle.machine.specs.declared.Stepped.{Stepped}
-use Rattle.search.specs.declared.Todo.TheVariants as todo
+use Rattle.search.specs.Search as todo
 use Rattle.machine.proofs.Settle as Settle
 use Rattle.machine.proofs.Kept.{step_usable}
 use Rattle.listing.specs.Run.{end_of}

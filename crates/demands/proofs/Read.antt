@@ -86,13 +86,13 @@ module _ (st : State) (g : Taken st.tables) (z : Arrays st) (t i s : ℕ) (h : R
 
   guard : Reads (table_of T) (view_of T st) t (λ j. eqb j k) s
   guard = record {
-    fresh = λ j e. rw (eqb-true j k e, at_i, cell_in 8 false st.recorded t i short) h.fresh;
+    fresh = λ j e. rw (eqb-true j k e, at_i, cell_in 8 false st.parts.recorded t i short) h.fresh;
     holder = λ j e. rw (eqb-true j k e) h.holder;
   }
 
   seen : (a b : ℕ) → (view_of T (read_done st t i s).next).seen a b ≡ (read_v (view_of T st) t (λ j. eqb j k) s).seen a b
   unfolding read_done read_v row
-  seen a b = rw (set-row (version 0) st.readversions (version (version_at st s k)) z.readversions a b, set-row 0 st.readvalues (value_at st s k) z.readvalues a b)
+  seen a b = rw (set-row (version 0) st.parts.readversions (version (version_at st s k)) z.readversions a b, set-row 0 st.parts.readvalues (value_at st s k) z.readvalues a b)
       (elim (bool (eqb a t && eqb b k)) [
         | inl e ↦ rw (e, eqb-true b k (and-true (eqb a t) (eqb b k) e).1, h.holder)
         | inr e ↦ rw e
@@ -103,7 +103,7 @@ module _ (st : State) (g : Taken st.tables) (z : Arrays st) (t i s : ℕ) (h : R
   view_read = λ j. record {
     order = (view_of T st).order;
     seen = fun_ext (λ a. fun_ext (λ b. seen a b)) j;
-    recorded = fun_ext (λ a. fun_ext (λ b. set-row false st.recorded true z.recorded a b)) j;
+    recorded = fun_ext (λ a. fun_ext (λ b. set-row false st.parts.recorded true z.recorded a b)) j;
     delivered = (view_of T st).delivered;
     closed = (view_of T st).closed;
     cast = (view_of T st).cast;
@@ -117,5 +117,5 @@ unfolding world_of read_done counter
 read_step st t i s g z e =
     let T = st.tables in
     let h = readable st t i s e in
-    subst (λ (v : View). Steps (plan_of T) (world_of T st) (record { view = v; ord = submitted_in st.places T.txns }))
+    subst (λ (v : View). Steps (plan_of T) (world_of T st) (record { view = v; ord = submitted_in st.parts.places T.txns }))
     (sym (view_read st g z t i s h)) (read t (read_key T t i) s (guard st g z t i s h))

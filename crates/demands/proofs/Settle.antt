@@ -6,14 +6,15 @@ use mathlib.Core.Bool.{true}
 use mathlib.Core.Logic.{◌⊎◌, inl, inr}
 use native.Mathlib.Omega.{arith}
 use native.Mathlib.Numerals.{add-one, sub-one}
+use Rattle.std.specs.Prelude.{Ok}
 use Rattle.tables.specs.declared.Tables.{Tables}
 use Rattle.steps.specs.declared.Answer.TheVariants as answer
 use Rattle.machine.specs.Usable.{usable}
 use Rattle.machine.specs.Settle.{todo, after, most, settle_for, settle_done}
 use Rattle.machine.specs.declared.State.{State}
 use Rattle.machine.specs.declared.Stepped.{Stepped}
-use Rattle.search.specs.declared.Todo.{Todo}
-use Rattle.search.specs.declared.Todo.TheVariants.{Close, Deliver, Carry, Nothing}
+use Rattle.search.specs.Search.{Todo}
+use Rattle.search.specs.Search.{Close, Deliver, Carry, Nothing}
 use Rattle.machine.proofs.Settle.{Accepted, todo_accepted, settle_stops, settle_goes, settle_ends}
 use Rattle.machine.proofs.Ends.{Finished, settle_finishes}
 use Rattle.onecopy.proofs.Rules as Rules
@@ -92,7 +93,7 @@ module _ (T : Tables) (g : Taken T) where
   -- SETTLE answers the steps from the world w
   pub record Run (w : World (plan_of T)) (r : Stepped) : Type 0 where
     pub steps : ℕ
-    pub answers : r.answer ≡ answer.Settled steps
+    pub answers : r.answer ≡ Ok (answer.Settled steps)
     pub stands : Stands T r.next
     pub runs : Runs (plan_of T) w (world_of T r.next) steps
 

@@ -9,7 +9,8 @@ use native.Mathlib.Omega.{arith}
 use native.Mathlib.Numerals.{sub-one}
 use lib.Dec.{eqb, ltb}
 use borrow.Author.Tests.{ltb-true}
-use Rattle.layout.specs.Cells.{place_in, nobody}
+use Rattle.std.specs.Prelude.{Ok}
+use Rattle.parts.specs.Cells.{place_in, nobody}
 use Rattle.tables.specs.Sites.{site_count}
 use Rattle.steps.specs.declared.Step.{Step}
 use Rattle.steps.specs.declared.Step.TheVariants as step
@@ -23,8 +24,8 @@ use Rattle.machine.specs.Settle.{closes_first, first_closing, first_delivering, 
 use Rattle.machine.specs.Steps.{done}
 use Rattle.machine.specs.declared.State.{State}
 use Rattle.machine.specs.declared.Stepped.{Stepped}
-use Rattle.search.specs.declared.Todo.{Todo}
-use Rattle.search.specs.declared.Todo.TheVariants.{Close, Deliver, Carry, Nothing}
+use Rattle.search.specs.Search.{Todo}
+use Rattle.search.specs.Search.{Close, Deliver, Carry, Nothing}
 use Rattle.machine.proofs.Laws.{Usable, usable_has}
 use Rattle.machine.proofs.Settle.{Accepted, todo_accepted, after_usable, settle_stops, settle_goes, settle_ends}
 use Rattle.machine.proofs.Ends.{Finished, settle_finishes}
@@ -71,7 +72,7 @@ module _ (st : State) (u : Usable st) where
 
   closes_says : (s : ℕ) → Says (ltb (closes_first st s) nobody) (ClosesAt s)
   unfolding closes_first_in
-  closes_says s = found_says m (place_in st.places) (λ t. eqb (close_refusal st t s) 0) nobody (λ t l. close_says s t) u.txns
+  closes_says s = found_says m (place_in st.parts.places) (λ t. eqb (close_refusal st t s) 0) nobody (λ t l. close_says s t) u.txns
 
   closing_says : Says (ltb (first_closing st) nowhere) ((s : ℕ) × (s < n) × ClosesAt s)
   unfolding first_closing_in
@@ -88,8 +89,8 @@ module _ (st : State) (u : Usable st) where
       site : Foremost n (λ i. 0) ClosesAt (first_closing st)
       site = unfold first_closing_in in finds n (λ i. 0) (λ s. ltb (closes_first st s) nobody) nowhere (λ s l. closes_says s) u.sites (hit (first_closing st) nowhere e)
 
-      txn : (s : ℕ) → ltb (closes_first st s) nobody ≡ true → Foremost m (place_in st.places) (λ t. Permits st (step.Close t s)) (closes_first st s)
-      txn s e = unfold closes_first_in in finds m (place_in st.places) (λ t. eqb (close_refusal st t s) 0) nobody (λ t l. close_says s t) u.txns (hit (closes_first st s) nobody e)
+      txn : (s : ℕ) → ltb (closes_first st s) nobody ≡ true → Foremost m (place_in st.parts.places) (λ t. Permits st (step.Close t s)) (closes_first st s)
+      txn s e = unfold closes_first_in in finds m (place_in st.parts.places) (λ t. eqb (close_refusal st t s) 0) nobody (λ t l. close_says s t) u.txns (hit (closes_first st s) nobody e)
 
   no_close : ltb (first_closing st) nowhere ≡ false → NoClose st
   no_close e t s p = (fails closing_says).0 e (s, p.0, (t, p.2.0, p))
@@ -143,8 +144,8 @@ module _ (st : State) (u : Usable st) where
             ]
       ])
     where
-      txn : Foremost m (place_in st.places) Carries (first_carried st)
-      txn = unfold first_carried_in in finds m (place_in st.places) (λ t. ltb (first_from st t) nowhere) nobody (λ t l. carries_says t) u.txns (hit (first_carried st) nobody e)
+      txn : Foremost m (place_in st.parts.places) Carries (first_carried st)
+      txn = unfold first_carried_in in finds m (place_in st.parts.places) (λ t. ltb (first_from st t) nowhere) nobody (λ t l. carries_says t) u.txns (hit (first_carried st) nobody e)
 
       giver : (t : ℕ) → ltb (first_from st t) nowhere ≡ true → Foremost n (λ i. 0) (CarriesFrom t) (first_from st t)
       giver t e = unfold first_from_in in finds n (λ i. 0) (λ from. ltb (first_to st t from) nowhere) nowhere (λ from l. from_says t from) u.sites (hit (first_from st t) nowhere e)
@@ -154,7 +155,7 @@ module _ (st : State) (u : Usable st) where
 
   no_carry : ltb (first_carried st) nobody ≡ false → NoCarry st
   unfolding first_carried_in
-  no_carry e t from to p = (fails (found_says m (place_in st.places) (λ t. ltb (first_from st t) nowhere) nobody (λ t l. carries_says t) u.txns)).0 e
+  no_carry e t from to p = (fails (found_says m (place_in st.parts.places) (λ t. ltb (first_from st t) nowhere) nobody (λ t l. carries_says t) u.txns)).0 e
       (t, p.0, (from, p.1, (to, p.2, p)))
 
   -- what SETTLE does next is the first permitted; it stops where none is
@@ -196,7 +197,7 @@ foretold st Nothing f d = absurd d
 -- SETTLE, n steps having been taken
 record Ran (st : State) (n : ℕ) (r : Stepped) : Type 0 where
   steps : ℕ
-  answers : r.answer ≡ answer.Settled (n + steps)
+  answers : r.answer ≡ Ok (answer.Settled (n + steps))
   settles : Settling st steps r.next
 
 ended : (st : State) → Usable st → Finished st → Settling st 0 st
@@ -207,7 +208,7 @@ ended st u f = over
 
 along : (f n : ℕ) (st : State) → Arrays st → usable st ≡ true → Finished (settle_for f n st).next → Ran st n (settle_for f n st)
 along zero n st z h e =
-    rw (settle_ends 0 n st refl) (record { steps = 0; answers = ap answer.Settled (omega arith); settles = ended st (usable_has st h) (rw (settle_ends 0 n st refl) at e) })
+    rw (settle_ends 0 n st refl) (record { steps = 0; answers = ap (λ c. Ok (answer.Settled c)) (omega arith); settles = ended st (usable_has st h) (rw (settle_ends 0 n st refl) at e) })
 along (suc f) n st z h e = by (is_nothing (todo st)) (along f (n + 1) (after st (todo st)))
   where
     by : (todo st ≡ Nothing) ⊎ Some (todo st)
@@ -215,19 +216,19 @@ along (suc f) n st z h e = by (is_nothing (todo st)) (along f (n + 1) (after st 
         → Ran st n (settle_for (suc f) n st)
     by (inl q) more =
         let i = settle_stops (suc f) n st (omega arith) q in
-        rw i (record { steps = 0; answers = ap answer.Settled (omega arith); settles = ended st (usable_has st h) (rw i at e) })
+        rw i (record { steps = 0; answers = ap (λ c. Ok (answer.Settled c)) (omega arith); settles = ended st (usable_has st h) (rw i at e) })
     by (inr d) more =
         let i = rw sub-one at (settle_goes (suc f) n st (todo st) (omega arith) refl (λ q. subst Some q d)) in
         let r = more (after_arrays st (todo st) z) (after_usable st (todo st) h) (rw i at e) in
         rw i (record {
           steps = suc r.steps;
-          answers = r.answers ∙ ap answer.Settled (omega arith);
+          answers = r.answers ∙ ap (λ c. Ok (answer.Settled c)) (omega arith);
           settles = go (done st (step_for (todo st))).answer (foretold st (todo st) (todo_first st (usable_has st h)) d) (takes st (todo st) z h (todo_accepted st h) d) r.settles;
         })
 
 -- SETTLE answers how many steps it took, each the first permitted, until none was
-pub settles : (st : State) → Arrays st → usable st ≡ true → (n : ℕ) × ((settle_done st).answer ≡ answer.Settled n) × Settling st n (settle_done st).next
+pub settles : (st : State) → Arrays st → usable st ≡ true → (n : ℕ) × ((settle_done st).answer ≡ Ok (answer.Settled n)) × Settling st n (settle_done st).next
 unfolding settle_done
 settles st z h =
     let r = along most 0 st z h (settle_finishes st (record { delivered = z.delivered; closed = z.closed; carried = z.carried }) h) in
-    (r.steps, r.answers ∙ ap answer.Settled (omega arith), r.settles)
+    (r.steps, r.answers ∙ ap (λ c. Ok (answer.Settled c)) (omega arith), r.settles)

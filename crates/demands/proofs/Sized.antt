@@ -16,26 +16,27 @@ use Rattle.steps.specs.Kinds.{version, place}
 use Rattle.machine.specs.Parts.{with_closed}
 use Rattle.machine.specs.Rules.{verdict}
 use Rattle.machine.specs.Usable.{usable}
-use Rattle.machine.specs.Effects.{read_done, submit_done, deliver_done, carry_done, stored, committed, close_done}
+use Rattle.machine.specs.Effects.{read_done, submit_done, deliver_done, carry_done, committed, close_done}
+use Rattle.effects.proofs.Stores.{stored_length}
 use Rattle.machine.specs.Settle.{after}
 use Rattle.machine.specs.Fresh.{start_of}
 use Rattle.machine.specs.declared.State.{State}
-use Rattle.search.specs.declared.Todo.{Todo}
-use Rattle.search.specs.declared.Todo.TheVariants.{Close, Deliver, Carry, Nothing}
+use Rattle.search.specs.Search.{Todo}
+use Rattle.search.specs.Search.{Close, Deliver, Carry, Nothing}
 use Rattle.machine.proofs.Kept.{fresh_usable}
 use Rattle.machine.proofs.Settle.{after_usable}
 
 pub record Arrays (st : State) : Type 0 where
-  pub versions : length st.versions ≡ 1024
-  pub values : length st.values ≡ 1024
-  pub recorded : length st.recorded ≡ 1024
-  pub readversions : length st.readversions ≡ 1024
-  pub readvalues : length st.readvalues ≡ 1024
-  pub places : length st.places ≡ 128
-  pub delivered : length st.delivered ≡ 2048
-  pub closed : length st.closed ≡ 2048
-  pub cast : length st.cast ≡ 2048
-  pub carried : length st.carried ≡ 2048
+  pub versions : length st.parts.versions ≡ 1024
+  pub values : length st.parts.values ≡ 1024
+  pub recorded : length st.parts.recorded ≡ 1024
+  pub readversions : length st.parts.readversions ≡ 1024
+  pub readvalues : length st.parts.readvalues ≡ 1024
+  pub places : length st.parts.places ≡ 128
+  pub delivered : length st.parts.delivered ≡ 2048
+  pub closed : length st.parts.closed ≡ 2048
+  pub cast : length st.parts.cast ≡ 2048
+  pub carried : length st.parts.carried ≡ 2048
 
 pub record Whole (T : Tables) (st : State) : Type 0 where
   pub tables : st.tables ≡ T
@@ -44,20 +45,10 @@ pub record Whole (T : Tables) (st : State) : Type 0 where
 
 -- ---- each step keeps the lengths
 
-pub stored_length : {A : Type 0} (T : Tables) (t s : ℕ) (d : A) (f : ℕ → A → A) (l : List A) (n : ℕ) → length (stored T t s d f l n) ≡ length l
-unfolding stored
-stored_length T t s d f l zero = refl
-stored_length T t s d f l (suc i) = by (holds T s (write_key T t i)) (stored_length T t s d f l i)
-  where
-    by : (b : Bool) → length (stored T t s d f l i) ≡ length l
-        → length (cond b (set (stored T t s d f l i) (s * 64 + write_key T t i) (f i (get_or l (s * 64 + write_key T t i) d))) (stored T t s d f l i)) ≡ length l
-    by true e = length-set (stored T t s d f l i) _ _ ∙ e
-    by false e = e
-
 abbrev lengths : State → List ℕ
 lengths st =
-    length st.versions ∷ length st.values ∷ length st.recorded ∷ length st.readversions ∷ length st.readvalues
-    ∷ length st.places ∷ length st.delivered ∷ length st.closed ∷ length st.cast ∷ length st.carried ∷ []
+    length st.parts.versions ∷ length st.parts.values ∷ length st.parts.recorded ∷ length st.parts.readversions ∷ length st.parts.readvalues
+    ∷ length st.parts.places ∷ length st.parts.delivered ∷ length st.parts.closed ∷ length st.parts.cast ∷ length st.parts.carried ∷ []
 
 same_lengths : (st next : State) → Arrays st → lengths next ≡ lengths st → Arrays next
 same_lengths st next z e = record {

@@ -3,32 +3,30 @@
 use Prim.Native.Nat.{ℕ, zero, suc, ◌+◌}
 use mathlib.Core.Path.{◌≡◌, refl, subst}
 use mathlib.Core.Bool.{Bool, true, false, ◌&&◌, ◌||◌, not, cond}
-use mathlib.Core.List.{List}
+use mathlib.Core.List.{List, [], ◌∷◌}
+use mathlib.Core.Logic.{inl, inr}
+use Rattle.std.specs.Prelude.{Ok, Err}
+use Rattle.numbers.specs.Numbers.{step_number, step_refusal}
+use Rattle.numbers.specs.declared.StepRefusal.{StepRefusal}
 use lib.Dec.{eqb, leb, ltb}
 use types.Run.{OneOf, hit}
 use borrow.Author.Tests.{eqb-false}
-use Rattle.layout.specs.Cells.{nobody}
+use Rattle.parts.specs.Cells.{nobody}
 use Rattle.bounded.specs.Bounded.{all_below}
 use Rattle.tables.specs.Lists.{read_count, read_key}
 use Rattle.tables.specs.Sites.{site_count, holds}
 use Rattle.tables.specs.Concern.{concerns, local}
-use Rattle.steps.specs.Answers.{numbers_of}
+use Rattle.steps.specs.Answers.{Answered, numbers_of}
 use Rattle.steps.specs.declared.Step.{Step}
 use Rattle.steps.specs.declared.Step.TheVariants.{Read, Submit, Deliver, Carry, Close, Settle}
-use Rattle.steps.specs.declared.Answer.{Answer}
 use Rattle.steps.specs.declared.Answer.TheVariants as answer
 use Rattle.refusals.specs.Refusals.{carry_refusal_in, close_refusal_in, deliver_refusal_in, read_refusal_in, submit_refusal_in, verdict_refusal_in, vote_refusal_in, refusal_in}
 use Rattle.machine.specs.Parts.{place_of, recorded_of, delivered_at, closed_at, cast_by}
 use Rattle.machine.specs.Rules.{at_head, next_at, blocked, holds_vote_of, verdict, room_at}
 use Rattle.machine.specs.Refusals.{refusal}
-use Rattle.machine.specs.Effects.{read_done, submit_done, deliver_done, carry_done, close_done}
-use Rattle.machine.specs.Settle.{most, todo, after, settle_for, settle_done}
 use Rattle.machine.specs.Steps.{refused, done, decided, step_of}
 use Rattle.machine.specs.declared.State.{State}
-use Rattle.search.specs.declared.Todo.{Todo}
-use Rattle.search.specs.declared.Todo.TheVariants as todo
-use Rattle.machine.proofs.Refused.{refused_keeps}
-use Rattle.records.proofs.Laws.{apart}
+use Rattle.machine.proofs.Refused.{done_took, refused_keeps}
 use Rattle.demands.specs.Steps.{listed_for, Demand1Step}
 
 -- ---- a number that refuses is listed for its step
@@ -89,53 +87,54 @@ refusal_listed st (Close t s) =
     (taken l))))))))
 refusal_listed st Settle = taken (listed_for Settle)
 
--- ---- an accepted step is not refused
-
-settle_took : (f n : ℕ) (st : State) (m : ℕ) → (settle_for f n st).answer ≡ answer.Refused m → ⊥
-unfolding settle_for
-settle_took zero n st m = λ e. apart (cc)
-settle_took (suc f) n st m = by (λ next. settle_took f (n + 1) next m) (todo st) refl
-  where
-    by : ((next : State) → (settle_for f (n + 1) next).answer ≡ answer.Refused m → ⊥) → (x : Todo) → todo st ≡ x → (settle_for (suc f) n st).answer ≡ answer.Refused m → ⊥
-    by more (todo.Close t s) e = rw (e, settle_for) (more (after st (todo.Close t s)))
-    by more (todo.Deliver s) e = rw (e, settle_for) (more (after st (todo.Deliver s)))
-    by more (todo.Carry t from to) e = rw (e, settle_for) (more (after st (todo.Carry t from to)))
-    by more todo.Nothing e = rw (e, settle_for) (λ d. apart (cc))
-
-done_took : (st : State) (x : Step) (n : ℕ) → (done st x).answer ≡ answer.Refused n → ⊥
-unfolding done read_done submit_done deliver_done carry_done close_done settle_done
-done_took st (Read t i s) n e = apart (cc)
-done_took st (Submit t) n e = apart (cc)
-done_took st (Deliver s) n e = apart (cc)
-done_took st (Carry t from to) n e = apart (cc)
-done_took st (Close t s) n e = apart (cc)
-done_took st Settle n e = settle_took most 0 st n e
-
 -- ---- every step
 
+-- each number of a list names a refusal
+abbrev Named : List ℕ → Type 0
+Named [] = Unit {0}
+Named (k ∷ ks) = (step_number (step_refusal k) ≡ k) × Named ks
+
+named : (l : List ℕ) (n : ℕ) → Named l → OneOf l n → step_number (step_refusal n) ≡ n
+named [] n h o = absurd o
+named (k ∷ []) n h o = rw o h.0
+named (k ∷ j ∷ l) n h (inl e) = rw e h.0
+named (k ∷ j ∷ l) n h (inr o) = named (j ∷ l) n h.1 o
+
+all_named : (x : Step) → Named (listed_for x)
+unfolding step_refusal
+all_named (Read t i s) = (refl, (refl, (refl, (refl, (refl, tt)))))
+all_named (Submit t) = (refl, (refl, (refl, tt)))
+all_named (Deliver s) = (refl, (refl, (refl, tt)))
+all_named (Carry t from to) = (refl, (refl, (refl, (refl, (refl, tt)))))
+all_named (Close t s) = (refl, (refl, (refl, (refl, (refl, (refl, (refl, (refl, tt))))))))
+all_named Settle = tt
+
 -- a step on a usable state
-refused_listed : (st : State) (x : Step) (n : ℕ) → (decided st x).answer ≡ answer.Refused n → OneOf (listed_for x) n
+refused_listed : (st : State) (x : Step) (r : StepRefusal) → (decided st x).answer ≡ Err r → OneOf (listed_for x) (step_number r)
 unfolding decided
-refused_listed st x n = by (eqb (refusal st x) 0) refl
+refused_listed st x r = by (eqb (refusal st x) 0) refl
   where
-    by : (b : Bool) → eqb (refusal st x) 0 ≡ b → (cond b (done st x) (refused st (refusal st x))).answer ≡ answer.Refused n → OneOf (listed_for x) n
-    by true e h = absurd (done_took st x n h)
-    by false e h = let q : refusal st x ≡ n = cc in subst (OneOf (listed_for x)) q (refusal_listed st x (eqb-false (refusal st x) 0 e))
+    by : (b : Bool) → eqb (refusal st x) 0 ≡ b → (cond b (done st x) (refused st (refusal st x))).answer ≡ Err r → OneOf (listed_for x) (step_number r)
+    by true e h = absurd (done_took st x r h)
+    by false e h =
+        let q : step_refusal (refusal st x) ≡ r = cc in
+        let o = refusal_listed st x (eqb-false (refusal st x) 0 e) in
+        rw (← q, named (listed_for x) (refusal st x) (all_named x) o) o
 
 pub demand1_step : (st : State) (x : Step) → Demand1Step st x
 demand1_step st x = record {
-  unusable = λ u. unfold step_of in rw u;
-  listed = λ u n e. refused_listed st x n (unfold step_of in rw u at e);
-  zeros = λ n e. (refused_keeps st x n e).answers;
-  kept = λ n e. (refused_keeps st x n e).state;
+  unusable = λ u. unfold step_of step_refusal in rw u;
+  listed = λ u r e. refused_listed st x r (unfold step_of in rw u at e);
+  zeros = λ r e. (refused_keeps st x r e).answers;
+  kept = λ r e. (refused_keeps st x r e).state;
   accepted = by (step_of st x).answer;
 }
   where
-    by : (a : Answer) → ((n : ℕ) → a ≡ answer.Refused n → ⊥) → (numbers_of a).code ≡ 0
-    by (answer.Read version value) h = refl
-    by (answer.Submitted place) h = refl
-    by (answer.Delivered t vote) h = refl
-    by (answer.Carried vote) h = refl
-    by (answer.Closed verdict) h = refl
-    by (answer.Settled count) h = refl
-    by (answer.Refused n) h = absurd (h n refl)
+    by : (a : Answered) → ((r : StepRefusal) → a ≡ Err r → ⊥) → (numbers_of a).code ≡ 0
+    by (Ok (answer.Read version value)) h = refl
+    by (Ok (answer.Submitted place)) h = refl
+    by (Ok (answer.Delivered t vote)) h = refl
+    by (Ok (answer.Carried vote)) h = refl
+    by (Ok (answer.Closed verdict)) h = refl
+    by (Ok (answer.Settled count)) h = refl
+    by (Err r) h = absurd (h r refl)

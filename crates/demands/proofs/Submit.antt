@@ -12,7 +12,7 @@ use lib.ListN.{length, set}
 use lib.Seq.{get_or-set_same, get_or-set_other}
 use borrow.Author.Tests.{eqb-true, eq-eqb, ne_eqb, ltb-false, lt-ltb, leb-false, not-false}
 use Rattle.queues.specs.Queue.{submitted_in}
-use Rattle.layout.specs.Cells.{place_in, nobody}
+use Rattle.parts.specs.Cells.{place_in, nobody}
 use Rattle.bounded.specs.Bounded.{all_below, least_below}
 use Rattle.bounded.proofs.Truth.{and-true, clash, passed, and-false}
 use Rattle.bounded.proofs.Laws.{all_get, first-is, sum_less}
@@ -113,15 +113,15 @@ module _ (st : State) (t : ℕ) (g : Taken st.tables) (z : Arrays st) (h : Ready
   abbrev T : Tables
   T = st.tables
 
-  long : t < length st.places
+  long : t < length st.parts.places
   long = omega (arith, z.places, g.txns, h.txn)
 
   pub view_submit : view_of T (submit_done st t).next ≡ place_v (view_of T st) t (next_place st)
   unfolding submit_done place_v
   view_submit = λ j. record {
     order = record {
-      place = fun_ext (place_set st.places t (next_place st) long) j;
-      at = fun_ext (whose_set st.places t (next_place st) long T.txns h.txn g.txns h.fresh (omega arith) (λ u e. omega (arith, most u))) j;
+      place = fun_ext (place_set st.parts.places t (next_place st) long) j;
+      at = fun_ext (whose_set st.parts.places t (next_place st) long T.txns h.txn g.txns h.fresh (omega arith) (λ u e. omega (arith, most u))) j;
     };
     seen = (view_of T st).seen;
     recorded = (view_of T st).recorded;
@@ -137,7 +137,7 @@ module _ (st : State) (t : ℕ) (g : Taken st.tables) (z : Arrays st) (h : Ready
   all_read k r =
       let (i, a, l, e) = listed_get T.txns t (read_count T t) k T.reads r in
       let b : slot T.reads t (read_count T t) k ≡ i = subst (λ k. slot T.reads t (read_count T t) k ≡ i) e (slot_at T.reads t (read_count T t) i (g.reads t a).few (g.reads t a).once l) in
-      rw (b, cell_in 8 false st.recorded t i (omega (arith, (g.reads t a).few))) (h.reads i l)
+      rw (b, cell_in 8 false st.parts.recorded t i (omega (arith, (g.reads t a).few))) (h.reads i l)
 
 pub submit_step : (st : State) (t : ℕ) → Taken st.tables → Arrays st → Sound st → submit_refusal st t ≡ 0
     → Steps (plan_of st.tables) (world_of st.tables st) (world_of st.tables (submit_done st t).next)
@@ -147,6 +147,6 @@ submit_step st t g z w e =
     let n = submitted st in
     let h = ready st t e in
     let c = view_submit st t g z h w.good.most ∙ ap (λ p. place_v (view_of T st) t p) (add-one n) in
-    let d = one_more st.places t (next_place st) (long st t g z h w.good.most) T.txns h.txn g.txns h.fresh (omega arith) in
+    let d = one_more st.parts.places t (next_place st) (long st t g z h w.good.most) T.txns h.txn g.txns h.fresh (omega arith) in
     subst (λ (x : World (plan_of T)). Steps (plan_of T) (world_of T st) x) (sym (λ j. record { view = c j; ord = d j }))
     (World.submit (place_v (view_of T st) t (suc n)) (suc n) (submit t h.txn h.fresh (all_read st t g z h w.good.most)))

@@ -71,16 +71,16 @@ module _ (st : State) (g : Taken st.tables) (k : Handed st.tables st) (r : Reach
 
   delivered_is : (t s : ℕ) → s < N → tick (concerns T t s && v.delivered s t) ≡ cond (delivered_at st t s) 1 0
   delivered_is t s l = elim (bool (v.delivered s t)) [
-    | inl e ↦ rw (e, (inv_of T st w).delivered_concerns s t e, sym (cell_in 16 false st.delivered t s (near s l)) ∙ e)
-    | inr e ↦ rw (e, and-false (concerns T t s), sym (cell_in 16 false st.delivered t s (near s l)) ∙ e)
+    | inl e ↦ rw (e, (inv_of T st w).delivered_concerns s t e, sym (cell_in 16 false st.parts.delivered t s (near s l)) ∙ e)
+    | inr e ↦ rw (e, and-false (concerns T t s), sym (cell_in 16 false st.parts.delivered t s (near s l)) ∙ e)
   ]
 
   closed_is : (t s : ℕ) → s < N → tick (concerns T t s && not (eqb (v.closed s t) 0)) ≡ cond (ltb 0 (closed_at st t s)) 1 0
-  closed_is t s l = rw (cell_in 16 0 st.closed t s (near s l)) (elim (same (closed_at st t s) 0) [
+  closed_is t s l = rw (cell_in 16 0 st.parts.closed t s (near s l)) (elim (same (closed_at st t s) 0) [
     | inl e ↦ rw (e, and-false (concerns T t s))
     | inr e ↦
         let i = inv_of T st w in
-        let c : concerns T t s ≡ true = i.delivered_concerns s t (i.closed_delivered s t (rw (cell_in 16 0 st.closed t s (near s l)) (omega arith))) in
+        let c : concerns T t s ≡ true = i.delivered_concerns s t (i.closed_delivered s t (rw (cell_in 16 0 st.parts.closed t s (near s l)) (omega arith))) in
         rw (c, ne_eqb (closed_at st t s) 0 e, lt-ltb 0 (closed_at st t s) (omega arith))
   ])
 
@@ -89,7 +89,7 @@ module _ (st : State) (g : Taken st.tables) (k : Handed st.tables st) (r : Reach
   carried_held t f a c = rw (ne_eqb f a (k.differ t f a c)) c
 
   is_carried : (t f a : ℕ) → a < N → carried st t f a ≡ member (carried_to st t a) f
-  is_carried t f a l = ap (λ m. member m f) (cell_in 16 0 st.carried t a (near a l))
+  is_carried t f a l = ap (λ m. member m f) (cell_in 16 0 st.parts.carried t a (near a l))
 
   hand_is : (t f a : ℕ) → a < N → hand_done (table_of T) n v t f a ≡ cond (member (carried_to st t a) f) 1 0
   hand_is t f a l = elim (bool (carried st t f a)) [
@@ -133,8 +133,8 @@ module _ (st : State) (g : Taken st.tables) (k : Handed st.tables st) (r : Reach
   pub idle : (t : ℕ) → place_of st t ≡ 0 → done_on st t ≡ 0
   unfolding done_on
   idle t e = rw (
-    sum-zero N (λ s. cond (delivered_at st t s) 1 0) (λ s l. rw (sym (cell_in 16 false st.delivered t s (near s l)) ∙ undelivered s)),
-    sum-zero N (λ s. cond (ltb 0 (closed_at st t s)) 1 0) (λ s l. rw (sym (cell_in 16 0 st.closed t s (near s l)) ∙ unclosed s)),
+    sum-zero N (λ s. cond (delivered_at st t s) 1 0) (λ s l. rw (sym (cell_in 16 false st.parts.delivered t s (near s l)) ∙ undelivered s)),
+    sum-zero N (λ s. cond (ltb 0 (closed_at st t s)) 1 0) (λ s l. rw (sym (cell_in 16 0 st.parts.closed t s (near s l)) ∙ unclosed s)),
     sum-zero N (λ f. count_below N (λ s. member (carried_to st t s) f)) (λ f _. sum-zero N (λ s. cond (member (carried_to st t s) f) 1 0) (λ s l. rw (sym (is_carried t f s l) ∙ uncarried f s))),
   )
     where
@@ -179,7 +179,7 @@ here st g h =
       steps = q.steps;
       answers = ap (λ (r : Stepped). r.answer) (settle_is st h.whole.usable) ∙ q.answers;
       sum = omega (arith, m, sums st g h.handed h.reached);
-      closes = λ t s p e. rw (settle_is st h.whole.usable) (subst (λ x. 0 < x) (cell_in 16 0 (settle_done st).next.closed t s (omega (arith, g.sites, known T s t e))) (c s t e (lt-ltb 0 (place_of st t) p)));
+      closes = λ t s p e. rw (settle_is st h.whole.usable) (subst (λ x. 0 < x) (cell_in 16 0 (settle_done st).next.parts.closed t s (omega (arith, g.sites, known T s t e))) (c s t e (lt-ltb 0 (place_of st t) p)));
     }
 
 pub stands_settles : (T : Tables) → Taken T → (st : State) → Stands T st → Settles st

@@ -36,13 +36,13 @@ module _ (st : State) (g : Taken st.tables) (w : Sound st) (t s : ℕ) (txn : t 
   covered_at = covered_in (cast_by st t s) (carried_to st t s) T.sizes T.masks T.groups T.reads (read_count T t) (site_count T) t s
 
   abbrev agreed : Bool
-  agreed = all_yes_in st.cast (carried_to st t s) (site_count T) t s
+  agreed = all_yes_in st.parts.cast (carried_to st t s) (site_count T) t s
 
   held_is : (f : ℕ) → v.held t f s ≡ holds_vote_of st t s f
-  held_is f = rw (cell_in 16 0 st.cast t s near, cell_in 16 0 st.carried t s near)
+  held_is f = rw (cell_in 16 0 st.parts.cast t s near, cell_in 16 0 st.parts.carried t s near)
 
   cast_is : (f : ℕ) → f < site_count T → v.cast f t ≡ cast_by st t f
-  cast_is f l = cell_in 16 0 st.cast t f (omega (arith, g.sites))
+  cast_is f l = cell_in 16 0 st.parts.cast t f (omega (arith, g.sites))
 
   held_site : (f : ℕ) → v.held t f s ≡ true → (f < site_count T) × (0 < v.cast f t)
   held_site f h =
@@ -129,7 +129,7 @@ module _ (st : State) (g : Taken st.tables) (w : Sound st) (t s : ℕ) (txn : t 
   head_get h u d o =
       let l = placed_of T st w u ((inv_of T st w).delivered_placed s u d) in
       let x : before u ≡ false = any_none T.txns before (not-true (any_below T.txns before) h) u l in
-      let q : queued st s u ≡ true = rw (sym (cell_in 16 false st.delivered u s near) ∙ d, sym (cell_in 16 0 st.closed u s near) ∙ o) in
+      let q : queued st s u ≡ true = rw (sym (cell_in 16 false st.parts.delivered u s near) ∙ d, sym (cell_in 16 0 st.parts.closed u s near) ∙ o) in
       ltb-false (place_of st u) (place_of st t) (or-false (ltb (place_of st u) (place_of st t)) _ (rw q at x)).0
 
   pub head_put : v.delivered s t ≡ true → ((u : ℕ) → v.delivered s u ≡ true → v.closed s u ≡ 0 → place_of st t ≤ place_of st u) → at_head st t s ≡ true
@@ -137,8 +137,8 @@ module _ (st : State) (g : Taken st.tables) (w : Sound st) (t s : ℕ) (txn : t 
   head_put here h = rw (any_lack T.txns before (λ u l q.
       let (a, b) = and-true (queued st s u) (precedes u (place_of st u) t (place_of st t)) q in
       let (d, o) = and-true (delivered_at st u s) (eqb (closed_at st u s) 0) a in
-      let d' : v.delivered s u ≡ true = cell_in 16 false st.delivered u s near ∙ d in
-      let m : place_of st t ≤ place_of st u = h u d' (cell_in 16 0 st.closed u s near ∙ eqb-true (closed_at st u s) 0 o) in
+      let d' : v.delivered s u ≡ true = cell_in 16 false st.parts.delivered u s near ∙ d in
+      let m : place_of st t ≤ place_of st u = h u d' (cell_in 16 0 st.parts.closed u s near ∙ eqb-true (closed_at st u s) 0 o) in
       elim (or-true (ltb (place_of st u) (place_of st t)) (eqb (place_of st u) (place_of st t) && ltb u t) b) [
         | inl x ↦ omega (arith, ltb-true (place_of st u) (place_of st t) x)
         | inr x ↦

@@ -186,20 +186,20 @@ module _ (T : Tables) where
 
   abbrev pub view_of : State → View
   view_of st = record {
-    order = record { place = place_of st; at = whose_in st.places T.txns };
-    seen = λ t k. ((cell 8 (version 0) st.readversions t (place t k)).0, cell 8 0 st.readvalues t (place t k));
-    recorded = λ t k. cell 8 false st.recorded t (place t k);
-    delivered = λ s t. cell 16 false st.delivered t s;
-    closed = λ s t. cell 16 0 st.closed t s;
-    cast = λ s t. cell 16 0 st.cast t s;
-    held = λ t f a. holds_vote (cell 16 0 st.cast t a) (cell 16 0 st.carried t a) a f;
+    order = record { place = place_of st; at = whose_in st.parts.places T.txns };
+    seen = λ t k. ((cell 8 (version 0) st.parts.readversions t (place t k)).0, cell 8 0 st.parts.readvalues t (place t k));
+    recorded = λ t k. cell 8 false st.parts.recorded t (place t k);
+    delivered = λ s t. cell 16 false st.parts.delivered t s;
+    closed = λ s t. cell 16 0 st.parts.closed t s;
+    cast = λ s t. cell 16 0 st.parts.cast t s;
+    held = λ t f a. holds_vote (cell 16 0 st.parts.cast t a) (cell 16 0 st.parts.carried t a) a f;
     store = λ s k. cond (holds T s k) (version_at st s k, value_at st s k) (1, get_or T.first k 0);
   }
 
   -- with the number submitted
   unfoldable pub world_of : State → World plan_of
   unfolding counter
-  world_of st = record { view = view_of st; ord = submitted_in st.places T.txns }
+  world_of st = record { view = view_of st; ord = submitted_in st.parts.places T.txns }
 
   -- what holds of a reached state, of its view
   pub inv_of : (st : State) → Holds plan_of (world_of st) → Inv (table_of T) (view_of st)
@@ -215,7 +215,7 @@ module _ (T : Tables) where
   unfolding world_of counter
   placed_of st h = h.good.low
 
-  pub most_of : (st : State) → Holds plan_of (world_of st) → (t : ℕ) → place_of st t ≤ submitted_in st.places T.txns
+  pub most_of : (st : State) → Holds plan_of (world_of st) → (t : ℕ) → place_of st t ≤ submitted_in st.parts.places T.txns
   unfolding world_of counter
   most_of st h = h.good.most
 

@@ -1,5 +1,5 @@
 -- It computes: case A, its tables taken by the reader, its single copy at the end and its sum.
-use Rattle.std.specs.Prelude.{ℕ, List, [], ◌∷◌, ◌++◌, ◌≡◌, refl, replicate}
+use Rattle.std.specs.Prelude.{ℕ, List, [], ◌∷◌, ◌++◌, ◌≡◌, refl, replicate, Ok, Err}
 use Rattle.queues.specs.Queue.{head_in, blocked_in, next_in, submitted_in}
 use Rattle.bounded.specs.Bounded.{any_below, all_below, sum_below, first_below, first_of, list_from}
 use Rattle.keys.specs.Keys.{member, within, adding}
@@ -18,7 +18,10 @@ use Rattle.rules.specs.Fit.{counts_fit, row_fits, txn_fits, txns_fit, places_fit
 use Rattle.refusals.specs.Refusals.{carry_refusal_in, close_refusal_in, deliver_refusal_in, read_refusal_in, submit_refusal_in, verdict_refusal_in, vote_refusal_in, refusal_in}
 use Rattle.search.specs.Search.{closes_first_in, first_carried_in, first_closing_in, first_delivering_in, first_from_in, first_to_in, todo_in}
 use Rattle.machine.specs.Usable.{usable}
-use Rattle.machine.specs.Effects.{read_done, submit_done, deliver_done, carry_done, stored, committed, close_done}
+use Rattle.machine.specs.Effects.{read_done, submit_done, deliver_done, carry_done, committed, close_done}
+use Rattle.effects.specs.Stored.{stored}
+use Rattle.numbers.specs.Numbers.{file_refusal, step_refusal}
+use Rattle.numbers.specs.declared.StepRefusal.TheVariants.{Conflict}
 use Rattle.machine.specs.Settle.{settle_for, settle_done}
 use Rattle.machine.specs.Steps.{done, decided, step_of}
 use Rattle.machine.specs.Fresh.{start_of, fresh_of}
@@ -57,7 +60,7 @@ at_the_end : let st = end_of (fresh_of tables).state steps in
     ((copy_of st 3 0).0 ∷ (copy_of st 3 0).1 ∷ (copy_of st 3 1).0 ∷ (copy_of st 3 1).1 ∷ steps_in_all st ∷ steps_done st ∷ steps_taken (fresh_of tables).state steps ∷ [])
     (1 ∷ 100 ∷ 2 ∷ 7 ∷ 10 ∷ 10 ∷ 10 ∷ [])
 unfolding end_of steps_on done_on steps_taken slot whose_in run chosen
-    fresh_of start_of done decided step_of first_closing_in closes_first_in first_delivering_in first_carried_in first_from_in first_to_in todo_in settle_for settle_done read_done submit_done deliver_done carry_done stored committed close_done
+    fresh_of start_of file_refusal step_refusal done decided step_of first_closing_in closes_first_in first_delivering_in first_carried_in first_from_in first_to_in todo_in settle_for settle_done read_done submit_done deliver_done carry_done stored committed close_done
     read_refusal_in submit_refusal_in deliver_refusal_in vote_refusal_in carry_refusal_in verdict_refusal_in close_refusal_in refusal_in counts_fit row_fits txn_fits txns_fit places_fit usable head_in blocked_in next_in submitted_in certify_in covers_key covered_in all_yes_in verdict_by room_in
     in_row twice present meets conflict_in some_in all_in touches inside local keys_from keys_refusal size_refusal count_refusal key_refusal txn_refusal some_group end_refusal judge no_tables
     member within adding any_below all_below sum_below first_below first_of list_from
@@ -65,9 +68,9 @@ at_the_end = refl
 
 -- the steps one by one: it accepts, answers differently, goes on after its first step, and the second DELIVER meets a changed state
 answered : answers_of (fresh_of tables).state steps
-    ≡ answer.Read (version 1) 100 ∷ answer.Read (version 1) 200 ∷ answer.Submitted (place 1) ∷ answer.Submitted (place 2) ∷ answer.Delivered 0 1 ∷ answer.Refused 27 ∷ answer.Settled 9 ∷ []
+    ≡ Ok (answer.Read (version 1) 100) ∷ Ok (answer.Read (version 1) 200) ∷ Ok (answer.Submitted (place 1)) ∷ Ok (answer.Submitted (place 2)) ∷ Ok (answer.Delivered 0 1) ∷ Err Conflict ∷ Ok (answer.Settled 9) ∷ []
 unfolding answers_of
-    fresh_of start_of done decided step_of first_closing_in closes_first_in first_delivering_in first_carried_in first_from_in first_to_in todo_in settle_for settle_done read_done submit_done deliver_done carry_done stored committed close_done
+    fresh_of start_of file_refusal step_refusal done decided step_of first_closing_in closes_first_in first_delivering_in first_carried_in first_from_in first_to_in todo_in settle_for settle_done read_done submit_done deliver_done carry_done stored committed close_done
     read_refusal_in submit_refusal_in deliver_refusal_in vote_refusal_in carry_refusal_in verdict_refusal_in close_refusal_in refusal_in counts_fit row_fits txn_fits txns_fit places_fit usable head_in blocked_in next_in submitted_in certify_in covers_key covered_in all_yes_in verdict_by room_in
     in_row twice present meets conflict_in some_in all_in touches inside local keys_from keys_refusal size_refusal count_refusal key_refusal txn_refusal some_group end_refusal judge no_tables
     member within adding any_below all_below sum_below first_below first_of list_from

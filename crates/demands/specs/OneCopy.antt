@@ -11,7 +11,7 @@ use Rattle.demands.specs.View.{copy_of}
 
 -- version and value that t's i-th read returned
 abbrev pub returned : State → ℕ → ℕ → ℕ × ℕ
-returned st t i = ((get_or st.readversions (t * 8 + i) (version 0)).0, get_or st.readvalues (t * 8 + i) 0)
+returned st t i = ((get_or st.parts.readversions (t * 8 + i) (version 0)).0, get_or st.parts.readvalues (t * 8 + i) 0)
 
 -- version and value of k at s
 abbrev pub replica : State → ℕ → ℕ → ℕ × ℕ

@@ -1,5 +1,5 @@
 -- The protocol in propositions, as the report's lines 3 to 25 and document 01 set it out: when a step is permitted, and what it then does.
-use Rattle.std.specs.Prelude.{ℕ, suc, ◌+◌, ◌*◌, ◌<◌, ◌≡◌, true, false, ◌⊎◌, ◌↔◌, List, length, get_or}
+use Rattle.std.specs.Prelude.{ℕ, suc, ◌+◌, ◌*◌, ◌<◌, ◌≡◌, true, false, ◌⊎◌, ◌↔◌, List, length, get_or, Ok, Err}
 use Rattle.keys.specs.Keys.{member}
 use Rattle.tables.specs.Lists.{read_count, read_key, write_count, write_key, write_value}
 use Rattle.tables.specs.Sites.{site_count, holds}
@@ -7,11 +7,14 @@ use Rattle.tables.specs.declared.Tables.{Tables}
 use Rattle.steps.specs.Kinds.{version, place}
 use Rattle.steps.specs.declared.Step.{Step}
 use Rattle.steps.specs.declared.Step.TheVariants as step
-use Rattle.steps.specs.declared.Answer.{Answer}
+use Rattle.numbers.specs.Numbers.{step_number}
+use Rattle.numbers.specs.declared.StepRefusal.{StepRefusal}
+use Rattle.numbers.specs.declared.StepRefusal.TheVariants.{Unusable}
+use Rattle.steps.specs.Answers.{Answered}
 use Rattle.steps.specs.declared.Answer.TheVariants as answer
 use Rattle.machine.specs.Parts.{place_of, version_at, value_at, recorded_of, delivered_at, closed_at, cast_by, carried_to}
 use Rattle.machine.specs.Usable.{usable}
-use Rattle.machine.specs.Effects.{giving}
+use Rattle.machine.specs.Effects.{answering}
 use Rattle.machine.specs.Steps.{step_of}
 use Rattle.machine.specs.declared.State.{State}
 
@@ -90,7 +93,7 @@ module _ (st : State) where
 
   -- t's i-th read was recorded, and has the recorded version at s
   abbrev pub Current : ℕ → ℕ → ℕ → Type 0
-  Current s t i = (recorded_of st t i ≡ true) × (version_at st s (read_key T t i) ≡ (get_or st.readversions (t * 8 + i) (version 0)).0)
+  Current s t i = (recorded_of st t i ≡ true) × (version_at st s (read_key T t i) ≡ (get_or st.parts.readversions (t * 8 + i) (version 0)).0)
 
   -- yes exactly if each read key held by s has the recorded version there
   abbrev pub Certifies : ℕ → ℕ → Type 0
@@ -145,36 +148,36 @@ module _ (st : State) where
 
   -- the stores as they were; or t committed at s: each written key that s holds has one version more and its new value
   pub record SameStores (next : State) : Type 0 where
-    pub versions : next.versions ≡ st.versions
-    pub values : next.values ≡ st.values
+    pub versions : next.parts.versions ≡ st.parts.versions
+    pub values : next.parts.values ≡ st.parts.values
 
   pub record Stores (next : State) (s t : ℕ) : Type 0 where
     pub raised : (i : ℕ) → i < write_count T t → Holds T s (write_key T t i)
         → (version_at next s (write_key T t i) ≡ suc (version_at st s (write_key T t i))) × (value_at next s (write_key T t i) ≡ write_value T t i)
     pub others : (r k : ℕ) → k < 64 → ((r ≡ s) × Writes T t k × Holds T s k → ⊥)
         → (version_at next r k ≡ version_at st r k) × (value_at next r k ≡ value_at st r k)
-    pub long : (length next.versions ≡ length st.versions) × (length next.values ≡ length st.values)
+    pub long : (length next.parts.versions ≡ length st.parts.versions) × (length next.parts.values ≡ length st.parts.values)
 
   pub record SameReads (next : State) : Type 0 where
-    pub recorded : next.recorded ≡ st.recorded
-    pub readversions : next.readversions ≡ st.readversions
-    pub readvalues : next.readvalues ≡ st.readvalues
+    pub recorded : next.parts.recorded ≡ st.parts.recorded
+    pub readversions : next.parts.readversions ≡ st.parts.readversions
+    pub readvalues : next.parts.readvalues ≡ st.parts.readvalues
 
   pub record SameQueues (next : State) : Type 0 where
-    pub places : next.places ≡ st.places
-    pub delivered : next.delivered ≡ st.delivered
-    pub closed : next.closed ≡ st.closed
+    pub places : next.parts.places ≡ st.parts.places
+    pub delivered : next.parts.delivered ≡ st.parts.delivered
+    pub closed : next.parts.closed ≡ st.parts.closed
 
   pub record SameVotes (next : State) : Type 0 where
-    pub cast : next.cast ≡ st.cast
-    pub carried : next.carried ≡ st.carried
+    pub cast : next.parts.cast ≡ st.parts.cast
+    pub carried : next.parts.carried ≡ st.parts.carried
 
   -- READ records the version and value of t's i-th read key at s, and answers them
-  pub record DoesRead (t i s : ℕ) (a : Answer) (next : State) : Type 0 where
-    pub answered : a ≡ answer.Read (version (version_at st s (read_key T t i))) (value_at st s (read_key T t i))
-    pub recorded : Only false st.recorded next.recorded (t * 8 + i) true
-    pub readversions : Only (version 0) st.readversions next.readversions (t * 8 + i) (version (version_at st s (read_key T t i)))
-    pub readvalues : Only 0 st.readvalues next.readvalues (t * 8 + i) (value_at st s (read_key T t i))
+  pub record DoesRead (t i s : ℕ) (a : Answered) (next : State) : Type 0 where
+    pub answered : a ≡ Ok (answer.Read (version (version_at st s (read_key T t i))) (value_at st s (read_key T t i)))
+    pub recorded : Only false st.parts.recorded next.parts.recorded (t * 8 + i) true
+    pub readversions : Only (version 0) st.parts.readversions next.parts.readversions (t * 8 + i) (version (version_at st s (read_key T t i)))
+    pub readvalues : Only 0 st.parts.readvalues next.parts.readvalues (t * 8 + i) (value_at st s (read_key T t i))
     pub stores : SameStores next
     pub queues : SameQueues next
     pub votes : SameVotes next
@@ -186,52 +189,52 @@ module _ (st : State) where
     other : {n m : ℕ} → Submitted n m → place_of st n ≡ 0 → Submitted (suc n) m
 
   -- SUBMIT gives t the place one more than the number submitted so far, and answers it
-  pub record DoesSubmit (t : ℕ) (a : Answer) (next : State) : Type 0 where
+  pub record DoesSubmit (t : ℕ) (a : Answered) (next : State) : Type 0 where
     pub count : ℕ
     pub counted : Submitted T.txns count
-    pub answered : a ≡ answer.Submitted (place (suc count))
-    pub places : Only (place 0) st.places next.places t (place (suc count))
-    pub delivered : next.delivered ≡ st.delivered
-    pub closed : next.closed ≡ st.closed
+    pub answered : a ≡ Ok (answer.Submitted (place (suc count)))
+    pub places : Only (place 0) st.parts.places next.parts.places t (place (suc count))
+    pub delivered : next.parts.delivered ≡ st.parts.delivered
+    pub closed : next.parts.closed ≡ st.parts.closed
     pub stores : SameStores next
     pub reads : SameReads next
     pub votes : SameVotes next
 
   -- DELIVER puts the next into the queue of s with the vote of s, and answers both
-  pub record DoesDeliver (s : ℕ) (a : Answer) (next : State) : Type 0 where
+  pub record DoesDeliver (s : ℕ) (a : Answered) (next : State) : Type 0 where
     pub txn : ℕ
     pub vote : ℕ
     pub may : MayDeliver s txn
     pub votes : Votes s txn vote
-    pub answered : a ≡ answer.Delivered txn vote
-    pub delivered : Only false st.delivered next.delivered (txn * 16 + s) true
-    pub cast : Only 0 st.cast next.cast (txn * 16 + s) vote
-    pub places : next.places ≡ st.places
-    pub closed : next.closed ≡ st.closed
-    pub carried : next.carried ≡ st.carried
+    pub answered : a ≡ Ok (answer.Delivered txn vote)
+    pub delivered : Only false st.parts.delivered next.parts.delivered (txn * 16 + s) true
+    pub cast : Only 0 st.parts.cast next.parts.cast (txn * 16 + s) vote
+    pub places : next.parts.places ≡ st.parts.places
+    pub closed : next.parts.closed ≡ st.parts.closed
+    pub carried : next.parts.carried ≡ st.parts.carried
     pub stores : SameStores next
     pub reads : SameReads next
 
   -- CARRY hands the vote of from on t to to, and answers it
-  pub record DoesCarry (t from to : ℕ) (a : Answer) (next : State) : Type 0 where
-    pub answered : a ≡ answer.Carried (cast_by st t from)
+  pub record DoesCarry (t from to : ℕ) (a : Answered) (next : State) : Type 0 where
+    pub answered : a ≡ Ok (answer.Carried (cast_by st t from))
     pub held : ℕ
-    pub carried : Only 0 st.carried next.carried (t * 16 + to) held
+    pub carried : Only 0 st.parts.carried next.parts.carried (t * 16 + to) held
     pub given : member held from ≡ true
     pub others : (f : ℕ) → (f ≡ from → ⊥) → member held f ≡ member (carried_to st t to) f
-    pub cast : next.cast ≡ st.cast
+    pub cast : next.parts.cast ≡ st.parts.cast
     pub stores : SameStores next
     pub reads : SameReads next
     pub queues : SameQueues next
 
   -- CLOSE closes t at s by its verdict and answers that: a commit stores, an abort does not
-  pub record DoesClose (t s : ℕ) (a : Answer) (next : State) : Type 0 where
+  pub record DoesClose (t s : ℕ) (a : Answered) (next : State) : Type 0 where
     pub verdict : ℕ
-    pub answered : a ≡ answer.Closed verdict
+    pub answered : a ≡ Ok (answer.Closed verdict)
     pub does : ((verdict ≡ 1) × MayCommit s t × Stores next s t) ⊎ ((verdict ≡ 2) × Aborts s t × SameStores next)
-    pub closed : Only 0 st.closed next.closed (t * 16 + s) verdict
-    pub places : next.places ≡ st.places
-    pub delivered : next.delivered ≡ st.delivered
+    pub closed : Only 0 st.parts.closed next.parts.closed (t * 16 + s) verdict
+    pub places : next.parts.places ≡ st.parts.places
+    pub delivered : next.parts.delivered ≡ st.parts.delivered
     pub reads : SameReads next
     pub votes : SameVotes next
 
@@ -260,7 +263,7 @@ module _ (st : State) where
         → ((u g r : ℕ) → Earlier u g r t from to → Permits (step.Carry u g r) → ⊥) → First (step.Carry t from to)
 
   -- what a step other than SETTLE does
-  abbrev pub Effect : Step → Answer → State → Type 0
+  abbrev pub Effect : Step → Answered → State → Type 0
   Effect (step.Read t i s) a next = DoesRead t i s a next
   Effect (step.Submit t) a next = DoesSubmit t a next
   Effect (step.Deliver s) a next = DoesDeliver s a next
@@ -268,29 +271,29 @@ module _ (st : State) where
   Effect (step.Close t s) a next = DoesClose t s a next
   Effect step.Settle a next = ⊥
 
-  abbrev pub Does : Step → Answer → State → Type 0
+  abbrev pub Does : Step → Answered → State → Type 0
   Does x a next = (next.tables ≡ st.tables) × Effect x a next
 
 -- the first step permitted, again and again until none is: so many steps
 pub data Settling : State → ℕ → State → Type 0 where
   over : {st : State} → NoClose st → NoDeliver st → NoCarry st → Settling st 0 st
-  go : {st next end : State} {x : Step} {n : ℕ} (a : Answer) → First st x → Does st x a next → Settling next n end → Settling st (suc n) end
+  go : {st next end : State} {x : Step} {n : ℕ} (a : Answered) → First st x → Does st x a next → Settling next n end → Settling st (suc n) end
 
 -- what a permitted step does, SETTLE too, which answers how many steps it took
-abbrev pub Protocol : State → Step → Answer → State → Type 0
+abbrev pub Protocol : State → Step → Answered → State → Type 0
 Protocol st (step.Read t i s) a next = Does st (step.Read t i s) a next
 Protocol st (step.Submit t) a next = Does st (step.Submit t) a next
 Protocol st (step.Deliver s) a next = Does st (step.Deliver s) a next
 Protocol st (step.Carry t from to) a next = Does st (step.Carry t from to) a next
 Protocol st (step.Close t s) a next = Does st (step.Close t s) a next
-Protocol st step.Settle a next = (n : ℕ) × (a ≡ answer.Settled n) × Settling st n next
+Protocol st step.Settle a next = (n : ℕ) × (a ≡ Ok (answer.Settled n)) × Settling st n next
 
 -- ---- demand 2
 
 pub record Demand2 (st : State) : Type 0 where
   -- a step on an unusable state answers 10 before all else
-  pub unusable : usable st ≡ false → (x : Step) → step_of st x ≡ giving (answer.Refused 10) st
+  pub unusable : usable st ≡ false → (x : Step) → step_of st x ≡ answering (Err Unusable) st
   -- on any other, a permitted step does what the protocol says
   pub taken : usable st ≡ true → (x : Step) → Permits st x → Protocol st x (step_of st x).answer (step_of st x).next
   -- and one that is not permitted is refused: the state stays equal in every part
-  pub refused : usable st ≡ true → (x : Step) → (Permits st x → ⊥) → (n : ℕ) × (0 < n) × (step_of st x ≡ giving (answer.Refused n) st)
+  pub refused : usable st ≡ true → (x : Step) → (Permits st x → ⊥) → (r : StepRefusal) × (0 < step_number r) × (step_of st x ≡ answering (Err r) st)

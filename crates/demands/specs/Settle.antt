@@ -1,5 +1,5 @@
 -- SETTLE from a reached state: what it closes, and its count.
-use Rattle.std.specs.Prelude.{ℕ, ◌+◌, ◌*◌, ◌-◌, ◌<◌, ◌≡◌, true, cond, List, [], ◌∷◌, ltb}
+use Rattle.std.specs.Prelude.{ℕ, ◌+◌, ◌*◌, ◌-◌, ◌<◌, ◌≡◌, true, cond, List, [], ◌∷◌, ltb, Ok, Err}
 use Rattle.bounded.specs.Bounded.{sum_below, count_below}
 use Rattle.keys.specs.Keys.{member}
 use Rattle.tables.specs.Sites.{site_count}
@@ -7,7 +7,7 @@ use Rattle.tables.specs.Concern.{concerns, votes, local}
 use Rattle.tables.specs.declared.Tables.{Tables}
 use Rattle.steps.specs.declared.Step.{Step}
 use Rattle.steps.specs.declared.Step.TheVariants as step
-use Rattle.steps.specs.declared.Answer.{Answer}
+use Rattle.steps.specs.Answers.{Answered}
 use Rattle.steps.specs.declared.Answer.TheVariants as answer
 use Rattle.machine.specs.Parts.{place_of, delivered_at, closed_at, carried_to}
 use Rattle.machine.specs.Steps.{step_of}
@@ -42,20 +42,20 @@ steps_done st = sum_below st.tables.txns (done_on st)
 pub record Settles (st : State) : Type 0 where
   -- it answers the steps that it takes, which are the sum less those already done
   pub steps : ℕ
-  pub answers : (step_of st step.Settle).answer ≡ answer.Settled steps
+  pub answers : (step_of st step.Settle).answer ≡ Ok (answer.Settled steps)
   pub sum : steps + steps_done st ≡ steps_in_all st
   -- it closes all submitted transactions at all their sites
   pub closes : (t s : ℕ) → 0 < place_of st t → concerns st.tables t s ≡ true → 0 < closed_at (step_of st step.Settle).next t s
 
 -- the DELIVER, CLOSE and CARRY that a list of steps takes, those of its SETTLE included
-abbrev pub steps_in : Answer → ℕ
-steps_in (answer.Read version value) = 0
-steps_in (answer.Submitted place) = 0
-steps_in (answer.Delivered t vote) = 1
-steps_in (answer.Carried vote) = 1
-steps_in (answer.Closed verdict) = 1
-steps_in (answer.Settled count) = count
-steps_in (answer.Refused n) = 0
+abbrev pub steps_in : Answered → ℕ
+steps_in (Ok (answer.Read version value)) = 0
+steps_in (Ok (answer.Submitted place)) = 0
+steps_in (Ok (answer.Delivered t vote)) = 1
+steps_in (Ok (answer.Carried vote)) = 1
+steps_in (Ok (answer.Closed verdict)) = 1
+steps_in (Ok (answer.Settled count)) = count
+steps_in (Err r) = 0
 
 unfoldable pub steps_taken : State → List Step → ℕ
 steps_taken st [] = 0

@@ -1,6 +1,6 @@
 -- A state in the terms of the one-copy run: its tables, the order of places, what is committed, and the single copy.
 use Rattle.std.specs.Prelude.{ℕ, Bool, ◌&&◌, List, eqb, ltb, get_or}
-use Rattle.layout.specs.Cells.{place_in, nobody}
+use Rattle.parts.specs.Cells.{place_in, nobody}
 use Rattle.bounded.specs.Bounded.{any_below, least_below}
 use Rattle.tables.specs.Lists.{row_at, in_row, read_count, write_count, write_value}
 use Rattle.tables.specs.Sites.{site_count, holds}
@@ -32,7 +32,7 @@ unfoldable pub whose_in : List Place → ℕ → ℕ → ℕ
 whose_in places n p = least_below n (λ t. ltb 0 (place_in places t) && eqb (place_in places t) p) nobody
 
 abbrev pub order_of : State → Order
-order_of st = record { place = place_of st; at = whose_in st.places st.tables.txns }
+order_of st = record { place = place_of st; at = whose_in st.parts.places st.tables.txns }
 
 -- committed at some site
 abbrev pub committed_of : State → ℕ → Bool

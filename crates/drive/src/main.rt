@@ -3,20 +3,15 @@
 
 use machine::State;
 use std::io;
-use steps::{Answer, Step};
+use steps::{Numbers, Step};
 use tables::Tables;
 
-fn say(rt: &HostRuntime, a: Answer) -> io::Result<()> {
-    let n = steps::numbers_of(a);
-    println!(rt; "{} {} {}", n.code, n.first, n.second)
-}
-
+// The state after a step, whose answer is printed.
 fn go(rt: &HostRuntime, st: State, x: Step) -> io::Result<State> {
-    let r = st.step(x);
-    let answer = r.answer;
-    let next = r.next;
-    say(rt, answer)?;
-    Ok(next)
+    let stepped = st.step(x);
+    let n = Numbers::from(stepped.answer);
+    println!(rt; "{} {} {}", n.code, n.first, n.second)?;
+    Ok(stepped.next)
 }
 
 // Keys 0 to 2 with the first values 10, 20, 30.
@@ -50,8 +45,7 @@ fn case_g(rt: &HostRuntime) -> io::Result<()> {
     t.gives[1] = 21;
     t.gives[8] = 12;
     t.gives[9] = 31;
-    let fresh = State::fresh(t);
-    let mut st = fresh.state;
+    let mut st = State::fresh(t).state;
     st = go(rt, st, Step::Read { t: 0, i: 0, s: 0 })?;
     st = go(rt, st, Step::Read { t: 1, i: 0, s: 2 })?;
     st = go(rt, st, Step::Submit(1))?;
@@ -79,8 +73,7 @@ fn case_i(rt: &HostRuntime) -> io::Result<()> {
     t.nwrites[2] = 1;
     t.writes[16] = 2;
     t.gives[16] = 31;
-    let fresh = State::fresh(t);
-    let mut st = fresh.state;
+    let mut st = State::fresh(t).state;
     st = go(rt, st, Step::Read { t: 1, i: 0, s: 0 })?;
     st = go(rt, st, Step::Submit(2))?;
     st = go(rt, st, Step::Deliver(0))?;

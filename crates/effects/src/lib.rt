@@ -1,149 +1,114 @@
-// What an accepted step answers and stores, in lent parts of a state.
+// What an accepted step answers and leaves of the parts of a state.
 #![tactic(auto)]
 
-ghost use Rattle.std.specs.Prelude.{◌≡◌, true, cond, ◌+◌, ◌*◌, ◌<◌, eqb, get_or, set, length};
+ghost use Rattle.std.specs.Prelude.{◌≡◌, cond, ◌+◌, ◌*◌, ◌<◌, eqb, get_or, set, unwrap_or};
 ghost use Rattle.keys.specs.Keys.{member, adding};
-ghost use Rattle.tables.specs.declared.Tables.{Tables};
-ghost use Rattle.plan.specs.Plan.{read_at, writes_of, txns_of, Laid, Plan};
-ghost use Rattle.layout.specs.Layout.{the_versions, the_read_versions, the_places, the_recorded, the_delivered, the_cast};
+ghost use Rattle.tables.specs.Lists.{read_key};
+ghost use Rattle.plan.specs.Planned.{Laid, Planned};
+ghost use Rattle.parts.specs.Cells.{cell, version_in};
+ghost use Rattle.parts.specs.Changed.{with_read, with_place, with_delivery, with_votes, with_closed};
 ghost use Rattle.queues.specs.Queue.{submitted_in, next_of};
 ghost use Rattle.rules.specs.Asked.{vote_in, verdict_at};
 ghost use Rattle.steps.specs.Kinds.{version, place};
-ghost use Rattle.effects.specs.Written.{written, Room, Inside};
+ghost use Rattle.effects.specs.Stored.{written_in, Room};
 
-use steps::{Answer, Place, Version};
-use tables::wide;
+use parts::Parts;
+use plan::Plan;
+use steps::{Answer, Place, Verdict, Version};
 
 // READ: records the version and value of t's i-th read key at s.
-pub fn read<'a, 'b>(
-    plan: &'a [u64; 3666],
-    numbers: &'b mut [u32; 4224],
-    flags: &'b mut [bool; 3072],
-    t: u8,
-    i: u8,
-    s: u8,
-) -> Answer
+pub fn read(plan: &Plan, w: &mut Parts, t: u8, i: u8, s: u8) -> Answer
     requires laid { Laid plan.now }
     requires t_bound { (t < 128) × ((i < 8) × (s < 16)) }
-    ensures fact { let from = s * 64 + read_at plan.now t i in let v = get_or numbers.old from 0 in let x = get_or numbers.old (1024 + from) 0 in (result ≡ Answer.Read (version v) x) × ((numbers.new ≡ set (set numbers.old (2048 + (t * 8 + i)) v) (3072 + (t * 8 + i)) x) × (3072 + (t * 8 + i) < length numbers.old)) }
-    ensures flags_after { (flags.new ≡ set flags.old (t * 8 + i) true) × (t * 8 + i < length flags.old) }
+    ensures value { let k = read_key plan.now.tables t i in result ≡ Answer.Read (version (version_in w.old.versions s k)) (get_or w.old.values (s * 64 + k) 0) }
+    ensures parts { let k = read_key plan.now.tables t i in w.new ≡ with_read w.old t i (version_in w.old.versions s k) (get_or w.old.values (s * 64 + k) 0) }
 {
-    let at = wide(t) * 8 + wide(i);
-    let from = wide(s) * 64 + wide(plan::read_key(plan, wide(t), wide(i)));
-    let version = numbers[from];
-    let value = numbers[1024 + from];
-    layout::put_flag(flags, at);
-    layout::put_number(numbers, 2048 + at, version);
-    layout::put_number(numbers, 3072 + at, value);
-    Answer::Read(Version(version), value)
+    let at = usize::from(t) * 8 + usize::from(i);
+    let from = usize::from(s) * 64 + plan.read_key(usize::from(t), usize::from(i));
+    // The plan may be of no tables: a key may then be past the store.
+    let version = w.versions.get(from).copied().unwrap_or(Version(0));
+    let value = w.values.get(from).copied().unwrap_or(0);
+    w.recorded[at] = true;
+    w.readversions[at] = version;
+    w.readvalues[at] = value;
+    Answer::Read(version, value)
 }
 
 // SUBMIT: gives t the next place.
-pub fn submit<'a, 'b>(plan: &'a [u64; 3666], numbers: &'b mut [u32; 4224], t: u8) -> Answer
+pub fn submit(plan: &Plan, w: &mut Parts, t: u8) -> Answer
     requires laid { Laid plan.now }
     requires t_bound { t < 128 }
-    ensures { let p = submitted_in (the_places numbers.old) (txns_of plan.now) + 1 in (result ≡ Answer.Submitted (place p)) × ((numbers.new ≡ set numbers.old (4096 + t) p) × (4096 + t < length numbers.old)) }
+    ensures { let p = submitted_in w.old.places plan.now.tables.txns + 1 in (result ≡ Answer.Submitted (place p)) × (w.new ≡ with_place w.old t p) }
 {
-    let place = queues::submitted(plan, numbers) + 1;
-    layout::put_number(numbers, 4096 + wide(t), place);
-    Answer::Submitted(Place(place))
+    let place = Place(queues::submitted(plan, w) + 1);
+    w.places[usize::from(t)] = place;
+    Answer::Submitted(place)
 }
 
 // Puts t into the queue of s, with the vote of s, which is the answer.
-pub fn deliver_at<'a, 'b>(
-    plan: &'a [u64; 3666],
-    numbers: &'a [u32; 4224],
-    flags: &'b mut [bool; 3072],
-    marks: &'b mut [u8; 4096],
-    t: usize,
-    s: usize,
-) -> u8
+pub fn deliver_at(plan: &Plan, w: &mut Parts, t: usize, s: usize) -> u8
     requires laid { Laid plan.now }
-    requires t_bound { (t < txns_of plan.now) × (s < 16) }
-    ensures value { (T : Tables) → Plan T plan.now → result ≡ vote_in T (the_versions numbers.now) (the_read_versions numbers.now) (the_recorded flags.old) t s }
-    ensures flags_after { (flags.new ≡ set flags.old (1024 + t * 16 + s) true) × (1024 + t * 16 + s < length flags.old) }
-    ensures marks_after { (marks.new ≡ set marks.old (2048 + t * 16 + s) result) × (2048 + t * 16 + s < length marks.old) }
+    requires t_bound { (t < plan.now.tables.txns) × (s < 16) }
+    ensures value { Planned plan.now → result ≡ vote_in plan.now.tables w.old.versions w.old.readversions w.old.recorded t s }
+    ensures parts { w.new ≡ with_delivery w.old t s result }
 {
-    let vote = rules::vote(plan, numbers, flags, t, s);
-    layout::put_flag(flags, 1024 + t * 16 + s);
-    layout::put_mark(marks, 2048 + t * 16 + s, vote);
+    let vote = rules::vote(plan, w, t, s).map_or(0, |v| v.number());
+    w.delivered[t * 16 + s] = true;
+    w.cast[t * 16 + s] = vote;
     vote
 }
 
 // DELIVER: the next at s.
-pub fn deliver<'a, 'b>(
-    plan: &'a [u64; 3666],
-    numbers: &'a [u32; 4224],
-    flags: &'b mut [bool; 3072],
-    marks: &'b mut [u8; 4096],
-    s: u8,
-) -> Answer
-    requires { (T : Tables) × (Plan T plan.now × ((s < 16) × (next_of T (the_places numbers.now) (the_delivered flags.old) s < T.txns))) }
-    ensures { (T : Tables) → let t = next_of T (the_places numbers.now) (the_delivered flags.old) s in let v = vote_in T (the_versions numbers.now) (the_read_versions numbers.now) (the_recorded flags.old) t s in Plan T plan.now → (result ≡ Answer.Delivered t v) × (((flags.new ≡ set flags.old (1024 + t * 16 + s) true) × (1024 + t * 16 + s < length flags.old)) × ((marks.new ≡ set marks.old (2048 + t * 16 + s) v) × (2048 + t * 16 + s < length marks.old))) }
+pub fn deliver(plan: &Plan, w: &mut Parts, s: u8) -> Answer
+    requires { Planned plan.now × ((s < 16) × (next_of plan.now.tables w.old.places w.old.delivered s < plan.now.tables.txns)) }
+    ensures { let t = next_of plan.now.tables w.old.places w.old.delivered s in let v = vote_in plan.now.tables w.old.versions w.old.readversions w.old.recorded t s in (result ≡ Answer.Delivered t v) × (w.new ≡ with_delivery w.old t s v) }
 {
-    let site = wide(s);
-    let t = queues::next_at(plan, numbers, flags, site);
-    let vote = deliver_at(plan, numbers, flags, marks, wide(t), site);
+    let site = usize::from(s);
+    let t = queues::next_at(plan, w, site).unwrap();
+    let vote = deliver_at(plan, w, usize::from(t), site);
     Answer::Delivered { t, vote }
 }
 
 // CARRY: hands the vote of from on t to to.
-pub fn carry<'a, 'b>(
-    marks: &'a [u8; 4096],
-    carried: &'b mut [u16; 2048],
-    t: u8,
-    from: u8,
-    to: u8,
-) -> Answer
+pub fn carry(w: &mut Parts, t: u8, from: u8, to: u8) -> Answer
     requires { (t < 128) × ((«from» < 16) × (to < 16)) }
-    ensures value { result ≡ Answer.Carried (get_or marks.now (2048 + t * 16 + «from») 0) }
-    ensures carried_after { let held = get_or carried.old (t * 16 + to) 0 in carried.new ≡ set carried.old (t * 16 + to) (cond (member held «from») held (adding held «from»)) }
+    ensures value { result ≡ Answer.Carried (cell 0 w.old.cast t «from») }
+    ensures parts { let held = cell 0 w.old.carried t to in w.new ≡ with_votes w.old (set w.old.carried (t * 16 + to) (cond (member held «from») held (adding held «from»))) }
 {
-    rules::hand(carried, wide(t) * 16 + wide(to), wide(from));
-    Answer::Carried(marks[2048 + wide(t) * 16 + wide(from)])
+    let at = usize::from(t) * 16;
+    rules::hand(&mut w.carried, at + usize::from(to), usize::from(from));
+    Answer::Carried(w.cast[at + usize::from(from)])
 }
 
 // A commit of t at s: each key that it writes there has the next version and the value.
-fn commit<'a, 'b>(plan: &'a [u64; 3666], numbers: &'b mut [u32; 4224], t: usize, s: usize)
-    requires laid { Laid plan.now }
-    requires t_bound { (t < txns_of plan.now) × ((s < 16) × Room plan.now t s numbers.old) }
-    ensures { (numbers.new ≡ written plan.now t s numbers.old (writes_of plan.now t)) × Inside plan.now t s numbers.old (writes_of plan.now t) }
+fn commit(plan: &Plan, w: &mut Parts, t: usize, s: usize)
+    requires planned { Planned plan.now }
+    requires t_bound { (t < plan.now.tables.txns) × ((s < 16) × Room plan.now.tables w.old t s) }
+    ensures { w.new ≡ written_in plan.now.tables w.old t s }
 {
-    let m = plan::site_set(plan, s);
-    let n = plan::writes(plan, t);
-    let mut i: usize = 0;
-    while i < n {
-        let k = plan::write_key(plan, t, i);
-        let x = plan::given(plan, t, i);
-        i += 1;
-        if keys::has_key(m, k) {
-            let at = s * 64 + wide(k);
-            let version = numbers[at];
-            layout::put_number(numbers, at, version + 1);
-            layout::put_number(numbers, 1024 + at, x);
+    let m = plan.site_sets[s];
+    for i in 0..plan.writes(t) {
+        let k = plan.write_key(t, i);
+        if keys::has(m, k) {
+            let at = s * 64 + k;
+            w.versions[at] = Version(w.versions[at].0 + 1);
+            w.values[at] = plan.given(t, i);
         }
     }
 }
 
 // CLOSE: t at s by its verdict.
-pub fn close<'a, 'b>(
-    plan: &'a [u64; 3666],
-    numbers: &'b mut [u32; 4224],
-    marks: &'b mut [u8; 4096],
-    carried: &'a [u16; 2048],
-    t: u8,
-    s: u8,
-) -> Answer
-    requires { (T : Tables) × (Plan T plan.now × ((t < T.txns) × ((s < 16) × (verdict_at T (the_cast marks.old) carried.now t s ≡ 1 → Room plan.now t s numbers.old)))) }
-    ensures value { (T : Tables) → let c = verdict_at T (the_cast marks.old) carried.now t s in Plan T plan.now → (result ≡ Answer.Closed c) × ((marks.new ≡ set marks.old (t * 16 + s) c) × ((numbers.new ≡ cond (eqb c 1) (written plan.now t s numbers.old (writes_of plan.now t)) numbers.old) × (c ≡ 1 → Inside plan.now t s numbers.old (writes_of plan.now t)))) }
-    ensures s_in_bounds { t * 16 + s < length marks.old }
+pub fn close(plan: &Plan, w: &mut Parts, t: u8, s: u8) -> Answer
+    requires { Planned plan.now × ((t < plan.now.tables.txns) × ((s < 16) × (verdict_at plan.now.tables w.old.cast w.old.carried t s ≡ 1 → Room plan.now.tables w.old t s))) }
+    ensures { let c = verdict_at plan.now.tables w.old.cast w.old.carried t s in (result ≡ Answer.Closed c) × (w.new ≡ with_closed (cond (eqb c 1) (written_in plan.now.tables w.old t s) w.old) t s c) }
 {
-    let at = wide(t);
-    let site = wide(s);
-    let verdict = rules::verdict(plan, marks, carried, at, site);
-    if verdict == 1 {
-        commit(plan, numbers, at, site);
+    let at = usize::from(t);
+    let site = usize::from(s);
+    let verdict = rules::verdict(plan, w, at, site);
+    if verdict == Some(Verdict::Commit) {
+        commit(plan, w, at, site);
     }
-    layout::put_mark(marks, at * 16 + site, verdict);
-    Answer::Closed(verdict)
+    let number = verdict.map_or(0, |v| v.number());
+    w.closed[at * 16 + site] = number;
+    Answer::Closed(number)
 }

@@ -1,15 +1,6 @@
 -- Tables of a setup that was read to its END: the judgement of tables takes what the reader takes.
 -- Assumes nothing.
-use Prim.Native.Nat.{ℕ, zero, suc, ◌+◌, ◌*◌, ◌<◌, ◌≤◌}
-use mathlib.Core.Bool.{Bool, true, false, cond}
-use mathlib.Core.List.{List}
-use mathlib.Core.Logic.{inl, inr}
-use mathlib.Core.Path.{◌≡◌, refl, ap, ◌∙◌}
-use native.Mathlib.Omega.{arith}
-use lib.Dec.{eqb, ltb}
-use lib.ListN.{length, get_or, set}
-use lib.Seq.{get_or-set_other}
-use borrow.Author.Tests.{ne_eqb, le-ltb}
+use Rattle.std.proofs.Common.{Result, Ok, Err, ℕ, zero, suc, ◌+◌, ◌*◌, ◌<◌, ◌≤◌, Bool, true, false, cond, List, inl, inr, ◌≡◌, refl, ap, ◌∙◌, arith, eqb, ltb, length, get_or, set, get_or-set_other, ne_eqb, le-ltb}
 use Rattle.bounded.specs.Bounded.{any_below}
 use Rattle.bounded.proofs.Truth.{same}
 use Rattle.bounded.proofs.Laws.{else-none, sum_same, all_same, any_same, of_put}
@@ -18,17 +9,13 @@ use Rattle.tables.specs.Lists.{row_at, in_row, twice, present, read_count, read_
 use Rattle.tables.specs.Judge.{keys_refusal, group_refusal, count_refusal, key_refusal, txn_refusal, end_refusal, judge}
 use Rattle.tables.specs.declared.Tables.{Tables}
 use Rattle.tables.proofs.Laws.{count_low}
-use Rattle.records.specs.Number.{number, row}
-use Rattle.records.proofs.Laws.{apart}
+use Rattle.records.specs.Number.{number, row_of, row}
 use Rattle.files.specs.Rows.{reads_of, writes_at, writes_of, with_keys, with_group, with_txn}
-use Rattle.files.specs.Setup.{reading, read_setup}
-use Rattle.files.specs.Schedule.{read_schedule}
-use Rattle.files.specs.File.{outcome_of, opened, limit, file_of}
-use Rattle.files.specs.declared.Outcome.TheVariants as outcome
-use Rattle.files.specs.declared.Where.TheVariants.{InSetup, InSchedule}
-use Rattle.files.specs.declared.Outcome.TheVariants.{Fine}
-use Rattle.files.specs.declared.Progress.{Progress}
-use Rattle.files.specs.declared.Progress.TheVariants.{On, Ready, Refused}
+use Rattle.files.specs.Setup.{setup_read, read_setup}
+use Rattle.numbers.specs.declared.FileRefusal.TheVariants.{TooLong}
+use Rattle.files.specs.File.{refused, parts_by, opened, limit, file_of}
+use Rattle.files.specs.declared.Misfit.{Misfit}
+use Rattle.files.specs.declared.Where.TheVariants.{InSetup}
 use Rattle.files.specs.declared.Setup.{Setup}
 use Rattle.files.proofs.Falls.{setup_has}
 
@@ -64,7 +51,7 @@ unfolding txn_refusal
 few_keys T t h = count_low t (read_count T t) (write_count T t) (else-none (count_refusal t (read_count T t) (write_count T t)) _ h).0
 
 row_before : (w step : ℕ) (s : List ℕ) (at base : ℕ) (l : List ℕ) (n j : ℕ) → j < base → get_or (row w step s at base l n) j 0 ≡ get_or l j 0
-unfolding row
+unfolding row_of
 row_before w step s at base l zero j h = refl
 row_before w step s at base l (suc i) j h =
     get_or-set_other (row w step s at base l i) (base + i) j (number s (at + step * i) w) 0 (λ e. absurd (omega arith)) ∙ row_before w step s at base l i j h
@@ -151,27 +138,26 @@ judged T h k g e = rw (
 
 -- a setup read as far as it goes, where it is not refused
 abbrev Ends : Setup → Type 0
-Ends x = elim x.progress [ On next ↦ ⊥ | Ready ↦ judge x.tables ≡ 0 | Refused n at ↦ Unit {0} ]
+Ends x = elim x.outcome [ Ok _ ↦ judge x.tables ≡ 0 | Err e ↦ Unit {0} ]
 
 setup_ends : (s : List ℕ) → Ends (read_setup s)
-setup_ends s = setup_has s (λ r. Sound r.tables) Ends (λ r h. record {
-  refuses = λ n o. tt;
-  keys = λ start len next l k m. keys_sound r.tables s start h len k m;
-  group = λ start len next l k e. group_sound r.tables s start h k e;
-  txn = λ start len next l k e. txn_sound r.tables s start h k e;
-  ready = λ k g e. judged r.tables h k g e;
+setup_ends s = setup_has s (λ r. Sound r.tables) Ends (λ x h. record {
+  refuses = λ why o. tt;
+  keys = λ r l k m. keys_sound x.tables s r.start h r.len k m;
+  group = λ r l k e. group_sound x.tables s r.start h k e;
+  txn = λ r l k e. txn_sound x.tables s r.start h k e;
+  ready = λ k g e. judged x.tables h k g e;
   follows = λ next l. tt;
 }) none_sound
 
 -- a file that is not refused
-pub file_judged : (setup schedule : List ℕ) → (file_of setup schedule).outcome ≡ Fine → judge (file_of setup schedule).tables ≡ 0
+pub file_judged : (setup schedule : List ℕ) → (file_of setup schedule).outcome ≡ Ok tt → judge (file_of setup schedule).tables ≡ 0
 unfolding file_of
-file_judged setup schedule = by (ltb limit (length setup + length schedule)) (read_setup setup).progress (read_setup setup).tables (setup_ends setup)
+file_judged setup schedule = by (ltb limit (length setup + length schedule)) (read_setup setup).outcome (read_setup setup).tables (setup_ends setup)
   where
-    by : (b : Bool) (v : Progress) (T : Tables) → Ends (reading v T)
-        → (cond b (opened (outcome.Refused 1 (InSetup 0)) no_tables) (opened (outcome_of InSetup v (outcome_of InSchedule (read_schedule schedule) Fine)) T)).outcome ≡ Fine
-        → judge (cond b (opened (outcome.Refused 1 (InSetup 0)) no_tables) (opened (outcome_of InSetup v (outcome_of InSchedule (read_schedule schedule) Fine)) T)).tables ≡ 0
-    by true v T h e = absurd (apart (cc))
-    by false (On next) T h e = absurd h
-    by false Ready T h e = h
-    by false (Refused n at) T h e = absurd (apart (cc))
+    by : (b : Bool) (v : Result (Unit {0}) Misfit) (T : Tables) → Ends (setup_read v T)
+        → (cond b (opened (Err (refused TooLong (InSetup 0))) no_tables) (opened (parts_by v schedule) T)).outcome ≡ Ok tt
+        → judge (cond b (opened (Err (refused TooLong (InSetup 0))) no_tables) (opened (parts_by v schedule) T)).tables ≡ 0
+    by true v T h e = cc
+    by false (Ok _) T h e = h
+    by false (Err m) T h e = cc

@@ -1,13 +1,6 @@
 -- What a good record of a setup has: its length by its tag, the tag that is left, its room in the tables.
 -- Assumes nothing.
-use Prim.Native.Nat.{ℕ, ◌+◌, ◌<◌, ◌≤◌}
-use mathlib.Core.Bool.{Bool, true, false, cond, ◌||◌}
-use mathlib.Core.List.{List}
-use mathlib.Core.Path.{◌≡◌, refl}
-use native.Mathlib.Omega.{arith}
-use lib.Dec.{eqb, leb}
-use lib.ListN.{get_or}
-use borrow.Author.Tests.{leb-true, leb-false, eqb-true}
+use Rattle.std.proofs.Common.{ℕ, ◌+◌, ◌<◌, ◌≤◌, Bool, true, false, cond, ◌||◌, List, ◌≡◌, refl, arith, eqb, leb, get_or, leb-true, leb-false, eqb-true}
 use Rattle.bounded.proofs.Truth.{and-true, or-false, passed}
 use Rattle.tables.specs.Judge.{size_refusal, count_refusal}
 use Rattle.records.specs.Rule.{rule_of, fits, values_fit, pairs_length, pairs_fit}

@@ -1,4 +1,5 @@
 pub mod Walk
+pub mod Refusals
 pub mod Cutting
 pub mod Fine
 pub mod Turns

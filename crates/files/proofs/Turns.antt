@@ -1,14 +1,8 @@
 -- What one record of a setup comes to: refused, taken into the tables, or END.
 -- Assumes nothing.
-use Prim.Native.Nat.{ℕ, suc, ◌<◌, ◌≤◌}
-use mathlib.Core.Bool.{Bool, true, false, ◌&&◌, ◌||◌, not, cond}
-use mathlib.Core.List.{List, [], ◌∷◌}
-use mathlib.Core.Path.{◌≡◌, refl}
-use mathlib.Core.Logic.{inl, inr}
-use lib.Dec.{eqb, leb, ltb}
-use lib.ListN.{length, get_or}
+use Rattle.std.proofs.Common.{Some, None, Ok, Err, ℕ, suc, ◌<◌, ◌≤◌, Bool, true, false, ◌&&◌, ◌||◌, not, cond, List, ◌≡◌, refl, inl, inr, eqb, leb, ltb, length, get_or, eqb-true, leb-false}
 use types.Run.{OneOf, hit}
-use borrow.Author.Tests.{eqb-true, eqb-false, leb-false}
+use borrow.Author.Tests.{eqb-false}
 use Rattle.bounded.specs.Bounded.{all_below, or_else}
 use Rattle.bounded.proofs.Truth.{clash}
 use Rattle.keys.specs.Keys.{within}
@@ -16,19 +10,20 @@ use Rattle.tables.specs.Lists.{present, twice, read_count, write_count}
 use Rattle.tables.specs.Sites.{sites_in}
 use Rattle.tables.specs.Judge.{size_refusal, group_refusal, count_refusal, key_refusal, txn_refusal, some_group, end_refusal}
 use Rattle.tables.specs.declared.Tables.{Tables}
-use Rattle.records.specs.declared.Judged.TheVariants.{Good}
+use Rattle.records.specs.declared.Record.{Record}
 use Rattle.records.proofs.Laws.{Lies}
 use Rattle.records.proofs.Good.{Is, first_numbers, judge_is}
-use Rattle.files.specs.Setup.{allowed, in_setup, reading, taken, ended, turn_by, turn_of}
+use Rattle.numbers.specs.Numbers.{file_number}
+use Rattle.numbers.specs.declared.FileRefusal.{FileRefusal}
+use Rattle.numbers.specs.declared.FileRefusal.TheVariants.{Misplaced}
+use Rattle.numbers.specs.Numbers.{file_refusal}
+use Rattle.files.specs.Refusal.{misfit}
+use Rattle.files.specs.Setup.{allowed, in_setup, Turned, reading, taken, ended, turn_by, turn_of}
 use Rattle.files.specs.Rows.{with_keys, with_group, with_txn}
-use Rattle.files.specs.declared.Progress.TheVariants.{On, Ready, Refused}
-use Rattle.files.specs.declared.Setup.{Setup}
 use Rattle.files.proofs.Fine.{keys_length}
+use Rattle.files.proofs.Refusals.{record_numbers, numbered}
 
 -- ---- the numbers that refuse a record
-
-abbrev pub record_numbers : List ℕ
-record_numbers = 2 ∷ 3 ∷ 4 ∷ 5 ∷ 6 ∷ 7 ∷ []
 
 -- those of the first judgement are among them
 pub first_number : (n : ℕ) → OneOf first_numbers n → OneOf record_numbers n
@@ -97,49 +92,55 @@ groups_before keys groups txns h g = by (eqb keys 0) (rw g at h)
 -- ---- the cases
 
 -- what is to be shown of the reading after the record at at, in each case
-pub record Cases (T : Tables) (s : List ℕ) (at : ℕ) (P : Setup → Type 0) : Type 0 where
-  pub refuses : (n : ℕ) → OneOf record_numbers n → P (reading (Refused n at) T)
-  pub keys : (start len next : ℕ) → Lies s at start len next → T.keys ≡ 0 → len ≤ 256 → P (reading (On next) (with_keys T s start len))
-  pub group : (start len next : ℕ) → Lies s at start len next → (T.keys ≡ 0 → ⊥) → group_refusal (with_group T s start) T.groups ≡ 0 → P (reading (On next) (with_group T s start))
-  pub txn : (start len next : ℕ) → Lies s at start len next → (T.keys ≡ 0 → ⊥) → txn_refusal (with_txn T s start) T.txns ≡ 0 → P (reading (On next) (with_txn T s start))
-  pub ready : (T.keys ≡ 0 → ⊥) → (T.groups ≡ 0 → ⊥) → end_refusal T ≡ 0 → P (reading Ready T)
+pub record Cases (T : Tables) (s : List ℕ) (at : ℕ) (P : Turned → Type 0) : Type 0 where
+  pub refuses : (why : FileRefusal) → OneOf record_numbers (file_number why) → P (reading (Err (misfit why at)) T)
+  pub keys : (r : Record) → Lies s at r → T.keys ≡ 0 → r.len ≤ 256 → P (reading (Ok (Some r.next)) (with_keys T s r.start r.len))
+  pub group : (r : Record) → Lies s at r → (T.keys ≡ 0 → ⊥) → group_refusal (with_group T s r.start) T.groups ≡ 0 → P (reading (Ok (Some r.next)) (with_group T s r.start))
+  pub txn : (r : Record) → Lies s at r → (T.keys ≡ 0 → ⊥) → txn_refusal (with_txn T s r.start) T.txns ≡ 0 → P (reading (Ok (Some r.next)) (with_txn T s r.start))
+  pub ready : (T.keys ≡ 0 → ⊥) → (T.groups ≡ 0 → ⊥) → end_refusal T ≡ 0 → P (reading (Ok None) T)
   -- something follows END
-  pub follows : (next : ℕ) → next < length s → P (reading (Refused 3 next) T)
+  pub follows : (next : ℕ) → next < length s → P (reading (Err (misfit Misplaced next)) T)
 
-module _ (T : Tables) (s : List ℕ) (at : ℕ) (P : Setup → Type 0) (c : Cases T s at P) where
-  taken_is : (n : ℕ) (new : Tables) (next : ℕ) → ((n ≡ 0 → ⊥) → OneOf record_numbers n) → (n ≡ 0 → P (reading (On next) new)) → P (taken T at n new next)
+module _ (T : Tables) (s : List ℕ) (at : ℕ) (P : Turned → Type 0) (c : Cases T s at P) where
+  refused : (n : ℕ) → OneOf record_numbers n → P (reading (Err (misfit (file_refusal n) at)) T)
+  refused n o = c.refuses (file_refusal n) (rw (numbered n o) o)
+
+  taken_is : (n : ℕ) (new : Tables) (next : ℕ) → ((n ≡ 0 → ⊥) → OneOf record_numbers n) → (n ≡ 0 → P (reading (Ok (Some next)) new)) → P (taken T at n new next)
   unfolding taken
   taken_is n new next o h = by (eqb n 0) refl
     where
-      by : (b : Bool) → eqb n 0 ≡ b → P (cond b (reading (On next) new) (reading (Refused n at) T))
+      by : (b : Bool) → eqb n 0 ≡ b → P (cond b (reading (Ok (Some next)) new) (reading (Err (misfit (file_refusal n) at)) T))
       by true e = h (eqb-true n 0 e)
-      by false e = c.refuses n (o (eqb-false n 0 e))
+      by false e = refused n (o (eqb-false n 0 e))
 
   end_is : (next : ℕ) → (T.keys ≡ 0 → ⊥) → (T.groups ≡ 0 → ⊥) → P (ended T s at next)
   unfolding ended
   end_is next k g = by (eqb (end_refusal T) 0) (leb (length s) next) refl refl
     where
-      by : (b l : Bool) → eqb (end_refusal T) 0 ≡ b → leb (length s) next ≡ l → P (cond b (reading (cond l Ready (Refused 3 next)) T) (reading (Refused (end_refusal T) at) T))
+      by : (b l : Bool) → eqb (end_refusal T) 0 ≡ b → leb (length s) next ≡ l
+          → P (cond b (reading (cond l (Ok None) (Err (misfit Misplaced next))) T) (reading (Err (misfit (file_refusal (end_refusal T)) at)) T))
       by true true e i = c.ready k g (eqb-true (end_refusal T) 0 e)
       by true false e i = c.follows next (leb-false (length s) next i)
-      by false l e i = c.refuses (end_refusal T) (end_number T (eqb-false (end_refusal T) 0 e))
+      by false l e i = refused (end_refusal T) (end_number T (eqb-false (end_refusal T) 0 e))
 
-  good_turn : (tag start len next : ℕ) → Is (in_setup T) s at tag start len next → P (turn_by T s at (Good tag start len next))
-  good_turn tag start len next i = by (eqb tag 0x0F) (eqb tag 0x01) (eqb tag 0x02) refl refl
+  good_turn : (r : Record) → Is (in_setup T) s at r → P (turn_by T s at (Ok r))
+  good_turn r i = by (eqb r.tag 0x0F) (eqb r.tag 0x01) (eqb r.tag 0x02) refl refl
     where
-      first : (k : ℕ) → eqb tag k ≡ true → allowed T.keys T.groups T.txns k ≡ true
-      first k e = rw (eqb-true tag k e) at i.allowed
+      first : (k : ℕ) → eqb r.tag k ≡ true → allowed T.keys T.groups T.txns k ≡ true
+      first k e = rw (eqb-true r.tag k e) at i.allowed
 
-      before : eqb tag 0x01 ≡ false → T.keys ≡ 0 → ⊥
-      before e = keys_before T.keys T.groups T.txns tag i.allowed e
+      before : eqb r.tag 0x01 ≡ false → T.keys ≡ 0 → ⊥
+      before e = keys_before T.keys T.groups T.txns r.tag i.allowed e
 
-      by : (p q r : Bool) → eqb tag 0x0F ≡ p → eqb tag 0x01 ≡ q →
-          P (cond p (ended T s at next) (cond q (taken T at 0 (with_keys T s start len) next) (cond r (taken T at (group_refusal (with_group T s start) T.groups) (with_group T s start) next) (taken T at (txn_refusal (with_txn T s start) T.txns) (with_txn T s start) next))))
-      by true q r e f = end_is next (before (rw (eqb-true tag 0x0F e))) (groups_before T.keys T.groups T.txns (first 0x0F e))
-      by false true r e f = taken_is 0 (with_keys T s start len) next (λ h. absurd (h refl)) (λ _. c.keys start len next i.lies (keys_first T.keys T.groups T.txns (first 0x01 f)) (keys_length s start len (rw (eqb-true tag 0x01 f) at i.fitting)))
-      by false false true e f = taken_is (group_refusal (with_group T s start) T.groups) (with_group T s start) next (group_number (with_group T s start) T.groups) (c.group start len next i.lies (before f))
-      by false false false e f = taken_is (txn_refusal (with_txn T s start) T.txns) (with_txn T s start) next (txn_number (with_txn T s start) T.txns) (c.txn start len next i.lies (before f))
+      by : (p q b : Bool) → eqb r.tag 0x0F ≡ p → eqb r.tag 0x01 ≡ q →
+          P (cond p (ended T s at r.next) (taken T at
+          (cond q 0 (cond b (group_refusal (with_group T s r.start) T.groups) (txn_refusal (with_txn T s r.start) T.txns)))
+          (cond q (with_keys T s r.start r.len) (cond b (with_group T s r.start) (with_txn T s r.start))) r.next))
+      by true q b e f = end_is r.next (before (rw (eqb-true r.tag 0x0F e))) (groups_before T.keys T.groups T.txns (first 0x0F e))
+      by false true b e f = taken_is 0 (with_keys T s r.start r.len) r.next (λ h. absurd (h refl)) (λ _. c.keys r i.lies (keys_first T.keys T.groups T.txns (first 0x01 f)) (keys_length s r.start r.len (rw (eqb-true r.tag 0x01 f) at i.fitting)))
+      by false false true e f = taken_is (group_refusal (with_group T s r.start) T.groups) (with_group T s r.start) r.next (group_number (with_group T s r.start) T.groups) (c.group r i.lies (before f))
+      by false false false e f = taken_is (txn_refusal (with_txn T s r.start) T.txns) (with_txn T s r.start) r.next (txn_number (with_txn T s r.start) T.txns) (c.txn r i.lies (before f))
 
   pub turn_is : P (turn_of T s at)
   unfolding turn_of
-  turn_is = judge_is (in_setup T) s at (λ j. P (turn_by T s at j)) good_turn (λ n o. c.refuses n (first_number n o))
+  turn_is = judge_is (in_setup T) s at (λ j. P (turn_by T s at j)) good_turn (λ why o. c.refuses why (first_number (file_number why) o))

@@ -1,15 +1,6 @@
 -- A transaction in the tables with it: its counts are those of its record, so it is judged by them first.
 -- Assumes nothing.
-use Prim.Native.Nat.{ℕ, ◌+◌, ◌<◌}
-use mathlib.Core.Bool.{true}
-use mathlib.Core.List.{List}
-use mathlib.Core.Logic.{inl, inr}
-use mathlib.Core.Path.{◌≡◌, sym, ◌∙◌}
-use native.Mathlib.Omega.{arith}
-use lib.Dec.{leb}
-use lib.ListN.{length, get_or}
-use lib.Seq.{get_or-set_same}
-use borrow.Author.Tests.{leb-false}
+use Rattle.std.proofs.Common.{ℕ, ◌+◌, ◌<◌, true, List, inl, inr, ◌≡◌, sym, ◌∙◌, arith, leb, length, get_or, get_or-set_same, leb-false}
 use Rattle.bounded.specs.Bounded.{or_else}
 use Rattle.bounded.proofs.Truth.{bool}
 use Rattle.tables.specs.Lists.{read_count, write_count}

@@ -1,8 +1,6 @@
 -- Laws of a walk whose turns make a state smaller: fuel above the size is enough, whatever it is.
 -- Assumes nothing.
-use Prim.Native.Nat.{ℕ, zero, suc, ◌<◌}
-use mathlib.Core.Path.{◌≡◌, refl}
-use native.Mathlib.Omega.{arith}
+use Rattle.std.proofs.Common.{ℕ, zero, suc, ◌<◌, ◌≡◌, refl, arith}
 use Rattle.files.specs.Walk.{Turn, go, stop, walk}
 
 pub walk_stops : {S A : Type 0} (turn : S → Turn S A) (out : A) (k : ℕ) (x : S) (a : A) → turn x ≡ stop a → walk turn out (suc k) x ≡ a

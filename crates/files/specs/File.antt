@@ -1,27 +1,32 @@
 -- A file in its two parts: refused as a whole, or tables and steps; and the part handed back with a refusal.
-use Rattle.std.specs.Prelude.{ℕ, ◌+◌, cond, List, ltb, length, drop}
+use Rattle.std.specs.Prelude.{ℕ, ◌+◌, cond, List, ltb, length, drop, Result, Ok, Err}
+use Rattle.numbers.specs.declared.FileRefusal.{FileRefusal}
+use Rattle.numbers.specs.declared.FileRefusal.TheVariants.{TooLong}
 use Rattle.tables.specs.Empty.{no_tables}
 use Rattle.tables.specs.declared.Tables.{Tables}
 use Rattle.files.specs.Setup.{read_setup}
 use Rattle.files.specs.Schedule.{read_schedule}
-use Rattle.files.specs.declared.Progress.TheVariants as progress
-use Rattle.files.specs.declared.Progress.{Progress}
+use Rattle.files.specs.declared.Misfit.{Misfit}
 use Rattle.files.specs.declared.Where.{Where}
 use Rattle.files.specs.declared.Where.TheVariants.{InSetup, InSchedule}
-use Rattle.files.specs.declared.Outcome.{Outcome}
-use Rattle.files.specs.declared.Outcome.TheVariants.{Fine, Refused}
+use Rattle.files.specs.declared.Refused.{Refused}
 use Rattle.files.specs.declared.File.{File}
 
-abbrev pub outcome_of : (ℕ → Where) → Progress → Outcome → Outcome
-outcome_of part (progress.On next) rest = rest
-outcome_of part progress.Ready rest = rest
-outcome_of part (progress.Refused n at) rest = Refused n (part at)
+abbrev pub refused : FileRefusal → Where → Refused
+refused r w = record { why = r; at = w }
+
+abbrev pub outcome_of : (ℕ → Where) → Result (Unit {0}) Misfit → Result (Unit {0}) Refused → Result (Unit {0}) Refused
+outcome_of part (Ok _) rest = rest
+outcome_of part (Err m) rest = Err (refused m.why (part m.at))
 
 -- the setup first, then the schedule
-abbrev pub parts_of : List ℕ → List ℕ → Outcome
-parts_of setup schedule = outcome_of InSetup (read_setup setup).progress (outcome_of InSchedule (read_schedule schedule) Fine)
+abbrev pub parts_by : Result (Unit {0}) Misfit → List ℕ → Result (Unit {0}) Refused
+parts_by setup schedule = outcome_of InSetup setup (outcome_of InSchedule (read_schedule schedule) (Ok tt))
 
-abbrev pub opened : Outcome → Tables → File
+abbrev pub parts_of : List ℕ → List ℕ → Result (Unit {0}) Refused
+parts_of setup schedule = parts_by (read_setup setup).outcome schedule
+
+abbrev pub opened : Result (Unit {0}) Refused → Tables → File
 opened o T = record { outcome = o; tables = T }
 
 abbrev pub limit : ℕ
@@ -30,7 +35,7 @@ limit = 60000
 -- number 1 comes first, counts both parts and hands back setup
 unfoldable pub file_of : List ℕ → List ℕ → File
 file_of setup schedule =
-    let long = opened (Refused 1 (InSetup 0)) no_tables in
+    let long = opened (Err (refused TooLong (InSetup 0))) no_tables in
     let read = opened (parts_of setup schedule) (read_setup setup).tables in
     cond (ltb limit (length setup + length schedule)) long read
 

@@ -1,4 +1,5 @@
 pub mod Walk
+pub mod Refusal
 pub mod Cut
 pub mod Rows
 pub mod Setup

@@ -1,15 +1,17 @@
 -- What a setup reads as: record by record, until one is END or is refused.
-use Rattle.std.specs.Prelude.{ℕ, suc, Bool, ◌||◌, cond, List, eqb, leb, length}
+use Rattle.std.specs.Prelude.{ℕ, suc, Bool, ◌||◌, cond, List, eqb, leb, length, Option, Some, None, Result, Ok, Err}
+use Rattle.numbers.specs.declared.FileRefusal.{FileRefusal}
+use Rattle.numbers.specs.declared.FileRefusal.TheVariants.{Misplaced}
 use Rattle.tables.specs.Empty.{no_tables}
 use Rattle.tables.specs.Judge.{group_refusal, txn_refusal, end_refusal}
 use Rattle.tables.specs.declared.Tables.{Tables}
 use Rattle.records.specs.Judge.{judge_at}
-use Rattle.records.specs.declared.Judged.{Judged}
-use Rattle.records.specs.declared.Judged.TheVariants.{Good, Bad}
+use Rattle.records.specs.declared.Record.{Record}
 use Rattle.files.specs.Walk.{Turn, go, stop, walk}
+use Rattle.numbers.specs.Numbers.{file_refusal}
+use Rattle.files.specs.Refusal.{misfit}
 use Rattle.files.specs.Rows.{with_keys, with_group, with_txn}
-use Rattle.files.specs.declared.Progress.{Progress}
-use Rattle.files.specs.declared.Progress.TheVariants.{On, Ready, Refused}
+use Rattle.files.specs.declared.Misfit.{Misfit}
 use Rattle.files.specs.declared.Setup.{Setup}
 
 -- which tag may come next: KEYS first, then a GROUP, then more GROUP, then TXN; END from the first GROUP on
@@ -23,37 +25,46 @@ allowed keys groups txns tag =
 abbrev pub in_setup : Tables → ℕ → Bool
 in_setup T tag = allowed T.keys T.groups T.txns tag
 
-abbrev pub reading : Progress → Tables → Setup
-reading p T = record { progress = p; tables = T }
+-- how far one record leads, on to a position or to the end, with the tables after it
+pub record Turned : Type 0 where
+  pub next : Result (Option ℕ) Misfit
+  pub tables : Tables
 
--- where a judgement of the record at at leads: on past it, or to its refusal
-abbrev pub progress_by : ℕ → Judged → Progress
-progress_by at (Good tag start len next) = On next
-progress_by at (Bad n) = Refused n at
+abbrev pub reading : Result (Option ℕ) Misfit → Tables → Turned
+reading p T = record { next = p; tables = T }
+
+-- the new tables, or where there is a refusal the old ones
+abbrev pub kept : Result (Unit {0}) FileRefusal → Tables → Tables → Tables
+kept (Ok _) new old = new
+kept (Err _) new old = old
 
 -- the record at at is refused with n, the tables being as they were, or with 0 taken: on to next with the new tables
-unfoldable pub taken : Tables → ℕ → ℕ → Tables → ℕ → Setup
-taken T at n new next = cond (eqb n 0) (reading (On next) new) (reading (Refused n at) T)
+unfoldable pub taken : Tables → ℕ → ℕ → Tables → ℕ → Turned
+taken T at n new next = cond (eqb n 0) (reading (Ok (Some next)) new) (reading (Err (misfit (file_refusal n) at)) T)
 
 -- nothing may follow END in setup
-unfoldable pub ended : Tables → List ℕ → ℕ → ℕ → Setup
+unfoldable pub ended : Tables → List ℕ → ℕ → ℕ → Turned
 ended T s at next =
     cond (eqb (end_refusal T) 0)
-    (reading (cond (leb (length s) next) Ready (Refused 3 next)) T)
-    (reading (Refused (end_refusal T) at) T)
+    (reading (cond (leb (length s) next) (Ok None) (Err (misfit Misplaced next))) T)
+    (reading (Err (misfit (file_refusal (end_refusal T)) at)) T)
 
-abbrev pub turn_by : Tables → List ℕ → ℕ → Judged → Setup
-turn_by T s at (Bad n) = reading (Refused n at) T
-turn_by T s at (Good tag start len next) =
-    let keys = taken T at 0 (with_keys T s start len) next in
-    let group = taken T at (group_refusal (with_group T s start) T.groups) (with_group T s start) next in
-    let txn = taken T at (txn_refusal (with_txn T s start) T.txns) (with_txn T s start) next in
-    let no_keys = cond (eqb tag 0x02) group txn in
-    let no_end = cond (eqb tag 0x01) keys no_keys in
-    cond (eqb tag 0x0F) (ended T s at next) no_end
+-- the tables with a record before END, and the number that refuses it as it stands there
+abbrev pub with_record : Tables → List ℕ → Record → Tables
+with_record T s r = cond (eqb r.tag 0x01) (with_keys T s r.start r.len) (cond (eqb r.tag 0x02) (with_group T s r.start) (with_txn T s r.start))
+
+abbrev pub record_refusal : Tables → List ℕ → Record → ℕ
+record_refusal T s r =
+    cond (eqb r.tag 0x01) 0
+    (cond (eqb r.tag 0x02) (group_refusal (with_group T s r.start) T.groups)
+    (txn_refusal (with_txn T s r.start) T.txns))
+
+abbrev pub turn_by : Tables → List ℕ → ℕ → Result Record FileRefusal → Turned
+turn_by T s at (Err why) = reading (Err (misfit why at)) T
+turn_by T s at (Ok r) = cond (eqb r.tag 0x0F) (ended T s at r.next) (taken T at (record_refusal T s r) (with_record T s r) r.next)
 
 -- one record
-unfoldable pub turn_of : Tables → List ℕ → ℕ → Setup
+unfoldable pub turn_of : Tables → List ℕ → ℕ → Turned
 turn_of T s at = turn_by T s at (judge_at (in_setup T) s at)
 
 -- where the reading is: a position and the tables so far
@@ -61,13 +72,20 @@ pub record Reached : Type 0 where
   pub at : ℕ
   pub tables : Tables
 
-abbrev pub onward : Tables → Progress → Turn Reached Setup
-onward T (On next) = go (record { at = next; tables = T })
-onward T Ready = stop (reading Ready T)
-onward T (Refused n at) = stop (reading (Refused n at) T)
+abbrev pub setup_read : Result (Unit {0}) Misfit → Tables → Setup
+setup_read o T = record { outcome = o; tables = T }
+
+abbrev pub onward : Tables → Result (Option ℕ) Misfit → Turn Reached Setup
+onward T (Ok (Some next)) = go (record { at = next; tables = T })
+onward T (Ok None) = stop (setup_read (Ok tt) T)
+onward T (Err e) = stop (setup_read (Err e) T)
 
 unfoldable pub setup_turn : List ℕ → Reached → Turn Reached Setup
-setup_turn s r = let x = turn_of r.tables s r.at in onward x.tables x.progress
+setup_turn s r = let x = turn_of r.tables s r.at in onward x.tables x.next
 
-unfoldable pub read_setup : List ℕ → Setup
-read_setup s = walk (setup_turn s) (reading Ready no_tables) (suc (length s)) (record { at = 0; tables = no_tables })
+-- the whole of a setup, with these tables to begin with
+unfoldable pub read_from : Tables → List ℕ → Setup
+read_from T s = walk (setup_turn s) (setup_read (Ok tt) no_tables) (suc (length s)) (record { at = 0; tables = T })
+
+abbrev pub read_setup : List ℕ → Setup
+read_setup s = read_from no_tables s

@@ -1,21 +1,25 @@
 // Files: where setup ends; the setup read into tables, the schedule into steps; the part handed back with a refusal.
 #![tactic(auto)]
 
-ghost use Rattle.std.specs.Prelude.{◌≡◌, ◌+◌, ◌<◌, ◌≤◌, length, drop};
+ghost use Rattle.std.specs.Prelude.{◌≡◌, ◌≢◌, ◌+◌, ◌<◌, ◌≤◌, true, length, drop, Ok, Err};
+ghost use Rattle.numbers.specs.Numbers.{file_answer};
 ghost use Rattle.tables.specs.Empty.{no_tables};
 ghost use Rattle.tables.specs.Judge.{group_refusal, txn_refusal};
-ghost use Rattle.records.specs.Rule.{pairs_length};
+ghost use Rattle.records.specs.Rule.{pairs_length, fits};
 ghost use Rattle.records.specs.Judge.{judge_at};
+ghost use Rattle.files.specs.Refusal.{placed};
 ghost use Rattle.files.specs.Cut.{cut_of};
 ghost use Rattle.files.specs.Rows.{with_keys, with_group, with_txn, reads_of, writes_of};
-ghost use Rattle.files.specs.Setup.{allowed, in_setup, taken, ended, progress_by, turn_by, turn_of, read_setup};
+ghost use Rattle.files.specs.Setup.{in_setup, kept, record_refusal, with_record, reading, ended, turn_of, setup_read, read_from, read_setup};
 ghost use Rattle.files.specs.Schedule.{in_schedule, read_schedule, step_by};
-ghost use Rattle.files.specs.File.{outcome_of, opened, file_of, rest_of};
+ghost use Rattle.files.specs.File.{parts_by, file_of, rest_of};
 
-use records::{Judged, Record};
+use numbers::FileRefusal;
+use records::{Field, Record};
 use steps::Step;
 use tables::Tables;
 
+// Tags stay bytes: one that is met may be none of these, and each place asks of it only once.
 const KEYS: u8 = 0x01;
 
 const GROUP: u8 = 0x02;
@@ -27,39 +31,46 @@ const END: u8 = 0x0F;
 // The most bytes that a file may have.
 const LIMIT: usize = 60000;
 
-// How far a part of the file was read: on from a position, to its end, or refused for the record at a position.
-#[derive(Clone, Copy)]
-pub enum Progress {
-    On(usize),
-    Ready,
-    Refused { number: u8, at: usize },
+// Why a part of the file is refused, and for the record at which byte of it.
+#[derive(Clone, Copy, Debug, PartialEq, Eq)]
+pub struct Misfit {
+    pub why: FileRefusal,
+    pub at: usize,
 }
 
 // A setup's reading, with the tables read so far.
-#[derive(Clone, Copy)]
+#[derive(Clone, Copy, Debug, PartialEq, Eq)]
 pub struct Setup {
-    pub progress: Progress,
+    pub outcome: Result<(), Misfit>,
     pub tables: Tables,
 }
 
 // Where a record stands: in which part of the file, and at which byte of it.
-#[derive(Clone, Copy)]
+#[derive(Clone, Copy, Debug, PartialEq, Eq)]
 pub enum Where {
     InSetup(usize),
     InSchedule(usize),
 }
 
-#[derive(Clone, Copy)]
-pub enum Outcome {
-    Fine,
-    Refused { number: u8, at: Where },
+// Why a file is refused, and for which record.
+#[derive(Clone, Copy, Debug, PartialEq, Eq)]
+pub struct Refused {
+    pub why: FileRefusal,
+    pub at: Where,
 }
 
 // A file's reading, with the tables read.
-#[derive(Clone, Copy)]
+#[derive(Clone, Copy, Debug, PartialEq, Eq)]
 pub struct File {
-    pub outcome: Outcome,
+    pub outcome: Result<(), Refused>,
     pub tables: Tables,
+}
+
+// What was found or its refusal, for the record at a byte.
+fn placed<T>(found: Result<T, FileRefusal>, at: usize) -> Result<T, Misfit>
+    ensures { result ≡ placed found at }
+{
+    found.map_err(|why| Misfit { why, at })
 }
 
 // Where the setup part of a file ends: just after the first END met by walking the lengths; without one, all is setup.
@@ -67,86 +78,56 @@ pub fn cut(file: &[u8]) -> usize
     ensures { result ≡ cut_of file.now }
 {
     let mut at: usize = 0;
-    loop {
-        let Record::Whole {
-            tag,
-            start: _,
-            len: _,
-            next,
-        } = records::record_from(file, at)
-        else {
-            return file.len();
-        };
-        if tag == END {
-            return next;
+    while let Ok(record) = records::record_from(file, at) {
+        if record.tag == END {
+            return record.next;
         }
-        at = next;
+        at = record.next;
     }
+    file.len()
 }
 
 // Whether a tag may come next in setup, by what there is so far.
-fn in_setup(keys: u8, groups: u8, txns: u8, tag: u8) -> bool
-    ensures { result ≡ allowed keys groups txns tag }
+fn in_setup(t: &Tables, tag: u8) -> bool
+    ensures { result ≡ in_setup t.now tag }
 {
-    if keys == 0 {
+    if t.keys == 0 {
         return tag == KEYS;
     }
-    if groups == 0 {
+    if t.groups == 0 {
         return tag == GROUP;
     }
-    if tag == GROUP {
-        return txns == 0;
+    match tag {
+        GROUP => t.txns == 0,
+        TXN | END => true,
+        _ => false,
     }
-    if tag == TXN {
-        return true;
-    }
-    tag == END
 }
 
 // Whether a tag may stand in a schedule.
 fn in_schedule(tag: u8) -> bool
     ensures { result ≡ in_schedule tag }
 {
-    if 0x10 <= tag {
-        return tag <= 0x15;
-    }
-    false
+    0x10 <= tag && tag <= 0x15
 }
 
 // What stands at a position of a setup, with the tables so far.
-fn judge_setup(t: Tables, s: &[u8], at: usize) -> Judged
-    ensures { result ≡ judge_at (in_setup t) s.now at }
+fn judge_setup(t: &Tables, s: &[u8], at: usize) -> Result<Record, FileRefusal>
+    ensures { result ≡ judge_at (in_setup t.now) s.now at }
 {
     let found = records::record_from(s, at);
-    records::judge(
-        s,
-        found,
-        in_setup(t.keys, t.groups, t.txns, records::tag_of(found)),
-    )
+    records::judge(s, found, in_setup(t, records::tag_of(found)))
 }
 
 // What stands at a position of a schedule.
-fn judge_schedule(s: &[u8], at: usize) -> Judged
+fn judge_schedule(s: &[u8], at: usize) -> Result<Record, FileRefusal>
     ensures { result ≡ judge_at in_schedule s.now at }
 {
     let found = records::record_from(s, at);
     records::judge(s, found, in_schedule(records::tag_of(found)))
 }
 
-// Where a record's judgement leads: on past it, or to its refusal.
-fn progress_by(judged: Judged, at: usize) -> Progress
-    ensures { result ≡ progress_by at judged }
-{
-    match judged {
-        Judged::Good {
-            tag: _,
-            start: _,
-            len: _,
-            next,
-        } => Progress::On(next),
-        Judged::Bad(n) => Progress::Refused { number: n, at },
-    }
-}
+// ---- a record is judged as it stands in the tables with it, so these are made anew and kept only if it is taken
 
 // The tables with KEYS: its len / 4 first values.
 fn with_keys(t: Tables, s: &[u8], start: usize, len: usize) -> Tables
@@ -154,11 +135,9 @@ fn with_keys(t: Tables, s: &[u8], start: usize, len: usize) -> Tables
     ensures { result ≡ with_keys t s.now start len }
 {
     let n = len / 4;
-    let old = t.first;
-    let first = records::first_values(old, s, start, n);
     let mut next = t;
     next.keys = n as u8;
-    next.first = first;
+    records::put_row(&mut next.first, 0, n, s, start, 4);
     next
 }
 
@@ -167,11 +146,11 @@ fn with_group(t: Tables, s: &[u8], start: usize) -> Tables
     requires { (start + 9 ≤ length s.now) × (t.groups < 8) }
     ensures { result ≡ with_group t s.now start }
 {
-    let g = tables::wide(t.groups);
+    let g = usize::from(t.groups);
     let mut next = t;
     next.groups = t.groups + 1;
     next.sizes[g] = s[start];
-    next.masks[g] = records::u64_at(s, start + 1);
+    next.masks[g] = u64::read(s, start + 1);
     next
 }
 
@@ -181,189 +160,129 @@ fn with_txn(t: Tables, s: &[u8], start: usize) -> Tables
     requires start_bound { (reads_of s.now start ≤ 8) × (writes_of s.now start ≤ 8) }
     ensures { result ≡ with_txn t s.now start }
 {
-    let x = tables::wide(t.txns);
+    let x = usize::from(t.txns);
     let base = x * 8;
-    let r = s[start];
-    let n = tables::wide(r);
+    let n = usize::from(s[start]);
     let at = start + 1 + n;
-    let w = s[at];
-    let m = tables::wide(w);
-    let old_reads = t.reads;
-    let reads = records::key_row(old_reads, s, start + 1, 1, base, n);
-    let old_writes = t.writes;
-    let writes = records::key_row(old_writes, s, at + 1, 5, base, m);
-    let old_gives = t.gives;
-    let gives = records::value_row(old_gives, s, at + 2, base, m);
+    let m = usize::from(s[at]);
     let mut next = t;
     next.txns = t.txns + 1;
-    next.nreads[x] = r;
-    next.reads = reads;
-    next.nwrites[x] = w;
-    next.writes = writes;
-    next.gives = gives;
+    next.nreads[x] = s[start];
+    records::put_row(&mut next.reads, base, n, s, start + 1, 1);
+    next.nwrites[x] = s[at];
+    records::put_row(&mut next.writes, base, m, s, at + 1, 5);
+    records::put_row(&mut next.gives, base, m, s, at + 2, 5);
     next
 }
 
-// The record at at refused with n, the tables being as they were, or with 0 taken: on to next with the new tables.
-fn taken(t: Tables, at: usize, n: u8, new: Tables, next: usize) -> Setup
-    ensures { result ≡ taken t at n new next }
-{
-    if n == 0 {
-        return Setup {
-            progress: Progress::On(next),
-            tables: new,
-        };
-    }
-    Setup {
-        progress: Progress::Refused { number: n, at },
-        tables: t,
-    }
-}
-
 // A GROUP is judged as it stands in the tables with it; there is no place for a ninth.
-fn group_turn(t: Tables, s: &[u8], at: usize, start: usize, next: usize) -> Setup
+fn take_group(t: &mut Tables, s: &[u8], start: usize) -> Result<(), FileRefusal>
     requires { start + 9 ≤ length s.now }
-    ensures { result ≡ taken t at (group_refusal (with_group t s.now start) t.groups) (with_group t s.now start) next }
+    ensures why { file_answer result ≡ group_refusal (with_group t.old s.now start) t.old.groups }
+    ensures then { t.new ≡ kept result (with_group t.old s.now start) t.old }
 {
     if 8 <= t.groups {
-        return taken(t, at, 5, t, next);
+        return Err(FileRefusal::Range);
     }
-    let new = with_group(t, s, start);
-    let g = tables::wide(t.groups);
-    let sites = tables::sites_in(&new.sizes, new.groups);
-    let n = tables::group_refusal(t.keys, t.groups, new.sizes[g], sites, new.masks[g]);
-    taken(t, at, n, new, next)
+    let new = with_group(*t, s, start);
+    let g = usize::from(t.groups);
+    tables::group_refusal(t.keys, t.groups, new.sizes[g], new.sites(), new.masks[g])?;
+    *t = new;
+    Ok(())
 }
 
 // The counts of a TXN are judged first, then its keys as they stand in the tables with it.
-fn txn_turn(t: Tables, s: &[u8], at: usize, start: usize, next: usize) -> Setup
+fn take_txn(t: &mut Tables, s: &[u8], start: usize) -> Result<(), FileRefusal>
     requires { start + pairs_length s.now start ≤ length s.now }
-    ensures { result ≡ taken t at (txn_refusal (with_txn t s.now start) t.txns) (with_txn t s.now start) next }
+    ensures why { file_answer result ≡ txn_refusal (with_txn t.old s.now start) t.old.txns }
+    ensures then { t.new ≡ kept result (with_txn t.old s.now start) t.old }
 {
     let r = s[start];
-    let w = s[start + 1 + tables::wide(r)];
-    let n = tables::count_refusal(t.txns, r, w);
-    if n == 0 {
-        let new = with_txn(t, s, start);
-        let m = new.key_refusal(tables::wide(t.txns));
-        return taken(t, at, m, new, next);
+    let w = s[start + 1 + usize::from(r)];
+    tables::count_refusal(t.txns, r, w)?;
+    let new = with_txn(*t, s, start);
+    new.key_refusal(usize::from(t.txns))?;
+    *t = new;
+    Ok(())
+}
+
+// A record before END is taken into the tables; refused, it leaves them as they were.
+fn take(t: &mut Tables, s: &[u8], r: Record) -> Result<(), FileRefusal>
+    requires lies { r.start + r.len ≤ length s.now }
+    requires fitting { fits s.now r.tag r.start r.len ≡ true }
+    requires allowed { (in_setup t.old r.tag ≡ true) × (r.tag ≢ 0x0F) }
+    ensures why { file_answer result ≡ record_refusal t.old s.now r }
+    ensures then { t.new ≡ kept result (with_record t.old s.now r) t.old }
+{
+    if r.tag == KEYS {
+        *t = with_keys(*t, s, r.start, r.len);
+        return Ok(());
     }
-    taken(t, at, n, t, next)
+    if r.tag == GROUP {
+        return take_group(t, s, r.start);
+    }
+    take_txn(t, s, r.start)
 }
 
 // END; nothing may follow it in setup.
-fn ended(t: Tables, s: &[u8], at: usize, next: usize) -> Setup
-    requires { t.groups ≤ 8 }
-    ensures { result ≡ ended t s.now at next }
+fn ended(t: &Tables, s: &[u8], at: usize, next: usize) -> Result<Option<usize>, Misfit>
+    requires { t.now.groups ≤ 8 }
+    ensures { reading result t.now ≡ ended t.now s.now at next }
 {
-    let n = t.end_refusal();
-    if n == 0 {
-        if s.len() <= next {
-            return Setup {
-                progress: Progress::Ready,
-                tables: t,
-            };
-        }
-        return Setup {
-            progress: Progress::Refused {
-                number: 3,
-                at: next,
-            },
-            tables: t,
-        };
+    placed(t.end_refusal(), at)?;
+    if next < s.len() {
+        return Err(Misfit {
+            why: FileRefusal::Misplaced,
+            at: next,
+        });
     }
-    Setup {
-        progress: Progress::Refused { number: n, at },
-        tables: t,
-    }
+    Ok(None)
 }
 
-// A record that may stand where it does and is as long as it must be.
-fn good_turn(
-    t: Tables,
-    s: &[u8],
-    at: usize,
-    tag: u8,
-    start: usize,
-    len: usize,
-    next: usize,
-) -> Setup
-    requires { (t.groups ≤ 8) × (judge_at (in_setup t) s.now at ≡ Judged.Good tag start len next) }
-    ensures { result ≡ turn_by t s.now at (Judged.Good tag start len next) }
+// One record of a setup: on past it, or to the setup's end.
+fn turn(t: &mut Tables, s: &[u8], at: usize) -> Result<Option<usize>, Misfit>
+    requires { t.old.groups ≤ 8 }
+    ensures { reading result t.new ≡ turn_of t.old s.now at }
 {
-    if tag == END {
-        return ended(t, s, at, next);
+    let record = placed(judge_setup(t, s, at), at)?;
+    if record.tag == END {
+        return ended(t, s, at, record.next);
     }
-    if tag == KEYS {
-        return taken(t, at, 0, with_keys(t, s, start, len), next);
-    }
-    if tag == GROUP {
-        return group_turn(t, s, at, start, next);
-    }
-    txn_turn(t, s, at, start, next)
-}
-
-// One record of a setup.
-fn turn(t: Tables, s: &[u8], at: usize) -> Setup
-    requires { t.groups ≤ 8 }
-    ensures { result ≡ turn_of t s.now at }
-{
-    let judged = judge_setup(t, s, at);
-    let Judged::Good {
-        tag,
-        start,
-        len,
-        next,
-    } = judged
-    else {
-        return Setup {
-            progress: progress_by(judged, at),
-            tables: t,
-        };
-    };
-    good_turn(t, s, at, tag, start, len, next)
+    placed(take(t, s, record), at)?;
+    Ok(Some(record.next))
 }
 
 // A setup, record by record, until one is END or is refused.
+fn read_tables(t: &mut Tables, s: &[u8]) -> Result<(), Misfit>
+    requires { t.old.groups ≤ 8 }
+    ensures { setup_read result t.new ≡ read_from t.old s.now }
+{
+    let mut at: usize = 0;
+    while let Some(next) = turn(t, s, at)? {
+        at = next;
+    }
+    Ok(())
+}
+
+// A setup read into tables that are empty.
 pub fn read_setup(s: &[u8]) -> Setup
     ensures { result ≡ read_setup s.now }
 {
-    let mut at: usize = 0;
     let mut tables = tables::no_tables();
-    loop {
-        let step = turn(tables, s, at);
-        let progress = step.progress;
-        let after = step.tables;
-        let Progress::On(next) = progress else {
-            return Setup {
-                progress,
-                tables: after,
-            };
-        };
-        tables = after;
-        at = next;
-    }
+    let outcome = read_tables(&mut tables, s);
+    Setup { outcome, tables }
 }
 
 // A schedule's tags and lengths, judged to its end; it may stop after any record.
-pub fn read_schedule(s: &[u8]) -> Progress
+pub fn read_schedule(s: &[u8]) -> Result<(), Misfit>
     ensures { result ≡ read_schedule s.now }
 {
     let mut at: usize = 0;
     while at != s.len() {
-        let judged = judge_schedule(s, at);
-        let Judged::Good {
-            tag: _,
-            start: _,
-            len: _,
-            next,
-        } = judged
-        else {
-            return progress_by(judged, at);
-        };
-        at = next;
+        let record = placed(judge_schedule(s, at), at)?;
+        at = record.next;
     }
-    Progress::Ready
+    Ok(())
 }
 
 // The step of a tag, its numbers from start on.
@@ -388,63 +307,37 @@ pub fn step_by(tag: u8, s: &[u8], start: usize) -> Step
     }
 }
 
-// How a schedule was read, as the file's outcome.
-fn schedule_outcome(p: Progress) -> Outcome
-    ensures { result ≡ outcome_of Where.InSchedule p Outcome.Fine }
-{
-    match p {
-        Progress::On(_) => Outcome::Fine,
-        Progress::Ready => Outcome::Fine,
-        Progress::Refused { number, at } => Outcome::Refused {
-            number,
-            at: Where::InSchedule(at),
-        },
-    }
-}
-
 // The outcome of a file whose setup was read so far: its own refusal, or what its schedule reads as.
-fn parts_outcome(p: Progress, schedule: &[u8]) -> Outcome
-    ensures { result ≡ outcome_of Where.InSetup p (outcome_of Where.InSchedule (read_schedule schedule.now) Outcome.Fine) }
+fn parts_outcome(setup: Result<(), Misfit>, schedule: &[u8]) -> Result<(), Refused>
+    ensures { result ≡ parts_by setup schedule.now }
 {
-    match p {
-        Progress::On(_) => schedule_outcome(read_schedule(schedule)),
-        Progress::Ready => schedule_outcome(read_schedule(schedule)),
-        Progress::Refused { number, at } => Outcome::Refused {
-            number,
-            at: Where::InSetup(at),
-        },
-    }
+    setup.map_err(|m| Refused {
+        why: m.why,
+        at: Where::InSetup(m.at),
+    })?;
+    read_schedule(schedule).map_err(|m| Refused {
+        why: m.why,
+        at: Where::InSchedule(m.at),
+    })
 }
 
-// A file of more bytes than it may have, both parts counted.
-fn too_long() -> File
-    ensures { result ≡ opened (Outcome.Refused 1 (Where.InSetup 0)) no_tables }
-{
-    File {
-        outcome: Outcome::Refused {
-            number: 1,
-            at: Where::InSetup(0),
-        },
-        tables: tables::no_tables(),
-    }
-}
-
-// A file in its two parts.
+// A file in its two parts; both are counted.
 pub fn read_file<'a>(setup: &'a [u8], schedule: &'a [u8]) -> File
     ensures { result ≡ file_of setup.now schedule.now }
 {
-    if LIMIT < setup.len() {
-        return too_long();
-    }
-    if LIMIT - setup.len() < schedule.len() {
-        return too_long();
+    if LIMIT < setup.len() || LIMIT - setup.len() < schedule.len() {
+        return File {
+            outcome: Err(Refused {
+                why: FileRefusal::TooLong,
+                at: Where::InSetup(0),
+            }),
+            tables: tables::no_tables(),
+        };
     }
     let read = read_setup(setup);
-    let progress = read.progress;
-    let tables = read.tables;
     File {
-        outcome: parts_outcome(progress, schedule),
-        tables,
+        outcome: parts_outcome(read.outcome, schedule),
+        tables: read.tables,
     }
 }
 

@@ -1,7 +1,7 @@
 // Reads into a lent buffer until it is full or there is no more.
 #![tactic(auto)]
 
-ghost use Rattle.std.specs.Prelude.{◌<◌, ◌≤◌, length, take, IfOk};
+ghost use Rattle.std.specs.Prelude.{◌≡◌, ◌<◌, ◌≤◌, length, take, IfOk};
 ghost use Rattle.std.specs.Io.KnownBytes.{Consumes, IsAtEnd};
 
 use std::io;
@@ -14,6 +14,7 @@ pub fn read_full<R: Read>(input: &mut R, buf: &mut [u8]) -> io::Result<usize>
     ensures end { IfOk result (λ n. n < length buf.old → IsAtEnd (R.remaining input.new)) }
 {
     let mut at = 0;
+    // A read may give fewer bytes than there is room for: how many turns there are is known only at the end.
     while at < buf.len() {
         let n = input.read(&mut buf[at..])?;
         if n == 0 {
@@ -22,4 +23,11 @@ pub fn read_full<R: Read>(input: &mut R, buf: &mut [u8]) -> io::Result<usize>
         at += n;
     }
     Ok(at)
+}
+
+// A buffer of n zeros, made in a function of its own: its caller's proof is told its length.
+pub fn zeros<const N: usize>() -> [u8; N]
+    ensures { length result ≡ N }
+{
+    [0; N]
 }

@@ -1,17 +1,9 @@
 -- CLOSE, DELIVER and CARRY are judged as before where the cells that they look at are as before.
 -- Assumes nothing.
-use Prim.Native.Nat.{ℕ, ◌+◌, ◌*◌, ◌<◌}
-use mathlib.Core.Path.{◌≡◌, sym, ◌∙◌}
-use mathlib.Core.Bool.{Bool, true, false, ◌&&◌, not, cond}
-use mathlib.Core.List.{List}
-use mathlib.Core.Logic.{inl, inr}
-use native.Mathlib.Omega.{arith}
-use lib.Dec.{eqb}
-use lib.ListN.{set}
-use lib.Seq.{get_or-set_other}
-use borrow.Author.Tests.{eq-eqb, ne_eqb, lt-leb, not-true}
+use Rattle.std.proofs.Common.{ℕ, ◌+◌, ◌*◌, ◌<◌, ◌≡◌, sym, ◌∙◌, Bool, true, false, ◌&&◌, not, cond, List, inl, inr, arith, eqb, set, get_or-set_other, eq-eqb, ne_eqb}
+use borrow.Author.Tests.{lt-leb, not-true}
 use Rattle.queues.specs.Queue.{queued_in, precedes, head_in, blocked_in, next_in, next_of, blocked_of}
-use Rattle.layout.specs.Cells.{place_in, cell, version_in}
+use Rattle.parts.specs.Cells.{place_in, cell, version_in}
 use Rattle.bounded.specs.Bounded.{any_below}
 use Rattle.bounded.proofs.Truth.{and-true, and_put, bool, clash, same}
 use Rattle.bounded.proofs.Laws.{any_get, any_put, all_same, any_same, first-same}
@@ -24,7 +16,7 @@ use Rattle.steps.specs.declared.Place.{Place}
 use Rattle.steps.specs.declared.Version.{Version}
 use Rattle.rules.specs.Asked.{verdict_at, room_of}
 use Rattle.refusals.specs.Refusals.{deliver_refusal_in, vote_refusal_in, carry_refusal_in, verdict_refusal_in, close_refusal_in}
-use Rattle.search.specs.Search.{Parts, parts, closing}
+use Rattle.search.specs.Search.{Seen, closing}
 use Rattle.search.proofs.Closes.{Closes, close_has}
 
 -- a store at one transaction and site leaves every other
@@ -34,7 +26,7 @@ cell_other d l t s u r v a b h = get_or-set_other l (t * 16 + s) (u * 16 + r) v 
 -- ---- CLOSE
 
 -- what passes each test is accepted
-pub close_put : (T : Tables) (w : Parts) (t s : ℕ) → Closes T w t s → closing T w t s ≡ 0
+pub close_put : (T : Tables) (w : Seen) (t s : ℕ) → Closes T w t s → closing T w t s ≡ 0
 unfolding close_refusal_in verdict_refusal_in
 close_put T w t s g =
     let z : cell 0 w.closed t s ≡ 0 = g.unclosed in
@@ -44,13 +36,6 @@ close_put T w t s g =
     judged : (v : ℕ) (head room : Bool) → (v ≡ 0 → ⊥) → (v ≡ 1 → head ≡ true) → (v ≡ 1 → room ≡ true)
         → ◌≡◌ {A = ℕ} (cond (eqb v 0) 30 (cond (eqb v 1 && not head) 31 (cond (eqb v 1 && not room) 32 0))) 0
     judged v head room k h r = rw (ne_eqb v 0 k) (elim (same v 1) [ inl e ↦ rw (eq-eqb v 1 e, h e, r e) | inr d ↦ rw (ne_eqb v 1 d) ])
-
--- so nothing but what is delivered and not closed can be closed
-pub close_only : (T : Tables) (versions : List Version) (places : List Place) (delivered : List Bool) (closed cast carried : List ℕ) (t s : ℕ)
-    → (t < T.txns → cell false delivered t s ≡ true → cell 0 closed t s ≡ 0 → ⊥)
-    → eqb (close_refusal_in T versions places delivered closed cast carried t s) 0 ≡ false
-close_only T versions places delivered closed cast carried t s h =
-    ne_eqb _ _ (λ z. let g = close_has T (parts versions places delivered closed cast carried) t s z in h g.txn g.delivered g.unclosed)
 
 -- the verdict looks at what s cast and was handed, and at the votes that it holds
 pub verdict_same : (T : Tables) (cast cast' carried carried' : List ℕ) (t s : ℕ) → cell 0 cast' t s ≡ cell 0 cast t s → cell 0 carried' t s ≡ cell 0 carried t s
@@ -84,7 +69,7 @@ unfolding room_in
 room_same versions versions' writes w t s m h = all_same w _ _ (λ i l. rw (h i l))
 
 -- so what is closed after a change could be closed before it
-pub close_back : (T : Tables) (w w' : Parts) (t s : ℕ)
+pub close_back : (T : Tables) (w w' : Seen) (t s : ℕ)
     → w'.places ≡ w.places
     → cell 0 w'.closed t s ≡ cell 0 w.closed t s
     → cell false w'.delivered t s ≡ cell false w.delivered t s

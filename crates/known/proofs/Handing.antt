@@ -1,16 +1,7 @@
 -- CARRY after CARRY of votes on one transaction: what comes next, and what is known after it.
 -- Assumes nothing.
-use Prim.Native.Nat.{ℕ, zero, suc, ◌+◌, ◌*◌, ◌/◌, ◌%◌, ◌≤◌, ◌<◌}
-use mathlib.Core.Path.{◌≡◌, refl, sym, ap, ◌∙◌}
-use mathlib.Core.Bool.{true, false, not, cond}
-use mathlib.Core.List.{List}
-use mathlib.Core.Logic.{inl, inr}
-use native.Mathlib.Omega.{arith}
-use native.Mathlib.Numerals.{add-one}
-use lib.Dec.{eqb, ltb}
-use lib.ListN.{length, get_or, set}
-use lib.Seq.{get_or-set_same, get_or-set_other}
-use borrow.Author.Tests.{eq-eqb, eqb-true, eqb-false, lt-ltb, ltb-true, le-ltb}
+use Rattle.std.proofs.Common.{ℕ, zero, suc, ◌+◌, ◌*◌, ◌/◌, ◌%◌, ◌≤◌, ◌<◌, ◌≡◌, refl, sym, ap, ◌∙◌, true, false, not, cond, List, inl, inr, arith, add-one, eqb, ltb, length, get_or, set, map, get_or-set_same, eq-eqb, eqb-true, lt-ltb, ltb-true, le-ltb}
+use borrow.Author.Tests.{eqb-false}
 use Rattle.queues.specs.Queue.{queued_in}
 use Rattle.order.specs.Order.{queued_at}
 use Rattle.order.proofs.Positions.{head_is}
@@ -22,13 +13,15 @@ use Rattle.keys.proofs.Laws.{adding_same, adding_other}
 use Rattle.tables.specs.Sites.{site_count}
 use Rattle.tables.specs.Fits.{Fits}
 use Rattle.tables.specs.declared.Tables.{Tables}
-use Rattle.layout.proofs.Laws.{portion_at}
-use Rattle.layout.specs.Cells.{place_in, cell, nobody}
+use Rattle.parts.specs.Cells.{place_in, cell, nobody}
 use Rattle.refusals.specs.Refusals.{carry_refusal_in}
-use Rattle.search.specs.Search.{Parts, closing, nowhere, closes_first_in, first_closing_in, first_delivering_in, first_to_in, first_from_in, first_carried_in, todo_in}
-use Rattle.search.specs.Known.{any, PassedTo, first_pair, codes_in, passed_in, low_at, top_at, open_at, Knows}
+use Rattle.search.specs.Search.{Seen, closing, nowhere, closes_first_in, first_closing_in, first_delivering_in, first_to_in, first_from_in, first_carried_in, todo_in}
+use Rattle.search.specs.Known.{any, PassedTo, first_pair, closable_code, low_at, top_at, Knows}
+use Rattle.search.specs.declared.Closable.TheVariants.{Nobody, Only, Anyone}
+use Rattle.search.specs.declared.Known.{Known}
+use Rattle.search.proofs.Entries.{code_at}
 use Rattle.known.specs.After.{carried_parts, Carried}
-use Rattle.search.specs.declared.Todo.TheVariants.{Carry}
+use Rattle.search.specs.Search.{Carry}
 use Rattle.refusals.proofs.Passed.{Carries, carry_has}
 use Rattle.search.proofs.Closes.{close_has}
 use Rattle.known.proofs.Frames.{cell_other, close_back, verdict_same, carry_same}
@@ -39,7 +32,7 @@ use Rattle.search.proofs.Stored.{knows_code, knows_below, knows_passed}
 -- ---- the head of a queue
 
 -- where none is in the queue of s from the first position that may be up to r: if one is there, it is the first by place
-pub head_found : (T : Tables) → Fits T → (w : Parts) (order l : List ℕ) → Knows T w order l → (s r : ℕ) → s < 16 → length w.delivered ≡ 2048
+pub head_found : (T : Tables) → Fits T → (w : Seen) (order : List ℕ) (l : Known) → Knows T w order l → (s r : ℕ) → s < 16 → length w.delivered ≡ 2048
     → ((i : ℕ) → low_at l s ≤ i → i < r → queued_at w.delivered w.closed order s i ≡ false)
     → (r < top_at l s → queued_at w.delivered w.closed order s r ≡ true)
     → cond (ltb r (top_at l s)) (get_or order r nobody) nobody ≡ first_below T.txns (place_in w.places) (queued_in w.delivered w.closed s) nobody
@@ -49,14 +42,14 @@ head_found T fits w order l k s r low long none here =
 -- ---- only votes on t are to be carried
 
 -- nothing can be closed or delivered, and no transaction before t has a vote to carry
-pub record Handing (T : Tables) (w : Parts) (t : ℕ) : Type 0 where
+pub record Handing (T : Tables) (w : Seen) (t : ℕ) : Type 0 where
   pub txn : t < T.txns
   pub closes : (u s : ℕ) → closing T w u s ≡ 0 → ⊥
   pub delivers : nowhere ≤ first_delivering_in T w.places w.delivered w.closed
   pub least : (u : ℕ) → u < T.txns → ltb (first_from_in T w.cast w.carried u) nowhere ≡ true → place_in w.places t ≤ place_in w.places u
   pub lower : (u : ℕ) → u < T.txns → ltb (first_from_in T w.cast w.carried u) nowhere ≡ true → place_in w.places u ≡ place_in w.places t → t ≤ u
 
-module _ (T : Tables) (fits : Fits T) (w : Parts) where
+module _ (T : Tables) (fits : Fits T) (w : Seen) where
   -- where nothing can be closed, the search for a CLOSE finds no site
   closes_nothing : ((u s : ℕ) → closing T w u s ≡ 0 → ⊥) → first_closing_in T w ≡ nowhere
   unfolding first_closing_in closes_first_in
@@ -118,7 +111,7 @@ module _ (T : Tables) (fits : Fits T) (w : Parts) where
 abbrev pub handed : List ℕ → ℕ → ℕ → ℕ → List ℕ
 handed carried t f s = set carried (t * 16 + s) (adding (cell 0 carried t s) f)
 
-module _ (T : Tables) (fits : Fits T) (w : Parts) (t f s : ℕ) (was : Carries T w.cast w.carried t f s) (long : t * 16 + s < length w.carried) where
+module _ (T : Tables) (fits : Fits T) (w : Seen) (t f s : ℕ) (was : Carries T w.cast w.carried t f s) (long : t * 16 + s < length w.carried) where
   -- what others hold, and what s holds now
   other : (u r : ℕ) → r < site_count T → (u ≡ t → r ≡ s → ⊥) → cell 0 (handed w.carried t f s) u r ≡ cell 0 w.carried u r
   other u r m h = cell_other 0 w.carried t s u r (adding (cell 0 w.carried t s) f) (omega (arith, fits.sites, was.taker)) (omega (arith, fits.sites)) h
@@ -171,7 +164,7 @@ module _ (T : Tables) (fits : Fits T) (w : Parts) (t f s : ℕ) (was : Carries T
       | inl e ↦ elim (same r s) [ inl q ↦ (e, q) | inr d ↦ absurd (g.closes u r (back (λ _ q. d q))) ]
     ]
       where
-        w' : Parts
+        w' : Seen
         w' = carried_parts w (handed w.carried t f s)
 
         back : (u ≡ t → r ≡ s → ⊥) → closing T w u r ≡ 0
@@ -191,68 +184,57 @@ module _ (T : Tables) (fits : Fits T) (w : Parts) (t f s : ℕ) (was : Carries T
     }
 
     -- what is known stays known where t may be closed at s
-    pub handed_knows : (order l : List ℕ) → Knows T w order l → s < length l → Knows T (carried_parts w (handed w.carried t f s)) order (set l s t)
+    pub handed_knows : (order : List ℕ) (l : Known) → Knows T w order l → s < length l.closable → Knows T (carried_parts w (handed w.carried t f s)) order (record l { closable = set l.closable s (Only t) })
     handed_knows order l k b = record {
-      ordered = new.ordered;
+      ordered = k.ordered;
       closing = λ r u h z.
           let (e, q) = handed_closes u r z in
-          clash (rw (e, q, at) at h) (ap not (or_right (eqb t any) (eqb t t) (eq-eqb t t refl)));
-      stuck = new.stuck;
-      passed = λ u. handed_passed u (get_or (passed_in (set l s t)) u 0) (new.passed u);
-      next = new.next;
-      low = new.low;
-      top = new.top;
-      opened = new.opened;
+          clash (rw (e, q, code) at h) (ap not (or_right (eqb t any) (eqb t t) (eq-eqb t t refl)));
+      stuck = k.stuck;
+      passed = λ u. handed_passed u (get_or l.passed u 0) (k.passed u);
+      next = k.next;
+      low = k.low;
+      top = k.top;
+      opened = k.opened;
     }
       where
-        low : s < 16
-        low = omega (arith, fits.sites, was.taker)
-
-        new : Knows T w order (set l s t)
-        new = knows_code T w order l k s t low b (λ u h. g.closes u s)
-
-        at : get_or (codes_in (set l s t)) s any ≡ t
-        at =
-            let e : 0 + s ≡ s = omega arith in
-            portion_at 0 (λ c. c) (set l s t) 0 16 s any low ∙ rw e (get_or-set_same l s t 0 b)
+        code : get_or (map closable_code (set l.closable s (Only t))) s any ≡ t
+        code = code_at (set l.closable s (Only t)) s ∙ ap closable_code (get_or-set_same l.closable s (Only t) Anyone b) ∙ rw (lt-ltb t nobody (omega (arith, g.txn, fits.txns)))
 
 -- ---- after k times CARRY
 
 -- from w on, the votes carried are now c, what is known is l, and the first q pairs of t are passed
-pub record Goes (T : Tables) (w : Parts) (order l : List ℕ) (t k q : ℕ) (c : List ℕ) : Type 0 where
+pub record Goes (T : Tables) (w : Seen) (order : List ℕ) (l : Known) (t k q : ℕ) (c : List ℕ) : Type 0 where
   pub carried : Carried T w k c
   pub handing : Handing T (carried_parts w c) t
   pub knows : Knows T (carried_parts w c) order l
   pub passed : PassedTo T w.cast c t q
 
 -- and the pair q has carried once more, from the k times before
-pub record Handed (T : Tables) (w : Parts) (order l : List ℕ) (t k q : ℕ) (c : List ℕ) : Type 0 where
+pub record Handed (T : Tables) (w : Seen) (order : List ℕ) (l : Known) (t k q : ℕ) (c : List ℕ) : Type 0 where
   pub txn : t < T.txns
   pub carried : Carried T w (k + 1) c
   pub knows : Knows T (carried_parts w c) order l
   pub passed : PassedTo T w.cast c t (q + 1)
   pub handing : (closing T (carried_parts w c) t (q % 16) ≡ 0 → ⊥) → Handing T (carried_parts w c) t
 
-module _ (T : Tables) (fits : Fits T) (w : Parts) (order l : List ℕ) (t from to : ℕ) (k : Knows T w order l) (next : todo_in T w ≡ Carry t from to) where
-  small : t < nobody
-  small = omega (arith, (next_carries T fits w t from to next).txn, fits.txns)
-
+module _ (T : Tables) (fits : Fits T) (w : Seen) (order : List ℕ) (l : Known) (t from to : ℕ) (k : Knows T w order l) (next : todo_in T w ≡ Carry t from to) where
   -- at first
-  pub goes_first : Goes T w order l t 0 (get_or l (80 + t) 0) w.carried
+  pub goes_first : Goes T w order l t 0 (get_or l.passed t 0) w.carried
   unfolding Carried
   goes_first = record {
     carried = refl;
     handing = next_hands T fits w t from to next;
     knows = k;
-    passed = rw (portion_at 0 (λ p. p) l 80 128 t 0 small) at (k.passed t);
+    passed = k.passed t;
   }
 
   -- t is not among those whose pairs are all passed
-  pub goes_opened : (i : ℕ) → i < open_at l → get_or order i nobody ≡ t → ⊥
-  goes_opened i h e = next-left T fits w t from to next (get_or (passed_in l) t 0) (rw e at (k.opened i h (rw e small))) (k.passed t)
+  pub goes_opened : (i : ℕ) → i < l.open → get_or order i nobody ≡ t → ⊥
+  goes_opened i h e = next-left T fits w t from to next (get_or l.passed t 0) (rw e at (k.opened i h (rw e (omega (arith, (next_carries T fits w t from to next).txn, fits.txns))))) (k.passed t)
 
   -- with all pairs passed one was carried
-  pub goes_some : (m : List ℕ) (n q : ℕ) (c : List ℕ) → 256 ≤ q → Goes T w order m t n q c → 0 < n
+  pub goes_some : (m : Known) (n q : ℕ) (c : List ℕ) → 256 ≤ q → Goes T w order m t n q c → 0 < n
   unfolding Carried
   goes_some m n q c h g = some n g.carried
     where
@@ -260,7 +242,7 @@ module _ (T : Tables) (fits : Fits T) (w : Parts) (order l : List ℕ) (t from t
       some zero e = absurd (next-left T fits w t from to next q h (rw e at g.passed))
       some (suc n) e = omega arith
 
-module _ (T : Tables) (fits : Fits T) (w : Parts) (order l : List ℕ) (t k q : ℕ) (c : List ℕ) (g : Goes T w order l t k q c) where
+module _ (T : Tables) (fits : Fits T) (w : Seen) (order : List ℕ) (l : Known) (t k q : ℕ) (c : List ℕ) (g : Goes T w order l t k q c) where
   -- the pair q cannot carry
   pub goes_by : eqb (carry_refusal_in T w.cast c t (q / 16) (q % 16)) 0 ≡ false → Goes T w order l t k (q + 1) c
   goes_by h = record {
@@ -271,8 +253,8 @@ module _ (T : Tables) (fits : Fits T) (w : Parts) (order l : List ℕ) (t k q : 
   }
 
   -- the pairs passed are known
-  pub goes_known : (m : List ℕ) → m ≡ set l (80 + t) q → 80 + t < length l → ((i : ℕ) → i < open_at l → get_or order i nobody ≡ t → ⊥) → Knows T (carried_parts w c) order m
-  goes_known m e b none = rw e (knows_passed T (carried_parts w c) order l g.knows q t (omega (arith, g.handing.txn, fits.txns)) b g.passed (λ i x y. absurd (none i x y)))
+  pub goes_known : t < length l.passed → ((i : ℕ) → i < l.open → get_or order i nobody ≡ t → ⊥) → Knows T (carried_parts w c) order (record l { passed = set l.passed t q })
+  goes_known b none = knows_passed T (carried_parts w c) order l g.knows t q b g.passed (λ i x y. absurd (none i x y))
 
   -- it can, and does: the votes carried are then c'
   module _ (h : q < 256) (z : eqb (carry_refusal_in T w.cast c t (q / 16) (q % 16)) 0 ≡ true) (long : t * 16 + q % 16 < length c) (c' : List ℕ)
@@ -288,11 +270,11 @@ module _ (T : Tables) (fits : Fits T) (w : Parts) (order l : List ℕ) (t k q : 
     on_taker = was.taker
 
     -- where t may be closed by it, what is known stays known
-    pub on_knows : (m : List ℕ) → m ≡ set l (q % 16) t → q % 16 < length l → Knows T (carried_parts w c') order m
-    on_knows m e b = rw (e, gives) (handed_knows T fits (carried_parts w c) t (q / 16) (q % 16) was long g.handing order l g.knows b)
+    pub on_knows : q % 16 < length l.closable → Knows T (carried_parts w c') order (record l { closable = set l.closable (q % 16) (Only t) })
+    on_knows b = rw gives (handed_knows T fits (carried_parts w c) t (q / 16) (q % 16) was long g.handing order l g.knows b)
 
     -- and one more was carried
-    pub on_handed : (m : List ℕ) → Knows T (carried_parts w c') order m → Handed T w order m t k q c'
+    pub on_handed : (m : Known) → Knows T (carried_parts w c') order m → Handed T w order m t k q c'
     unfolding Carried
     on_handed m known = record {
       txn = g.handing.txn;
@@ -312,22 +294,18 @@ module _ (T : Tables) (fits : Fits T) (w : Parts) (order l : List ℕ) (t k q : 
       handing = λ shut. rw gives (handed_hands T fits (carried_parts w c) t (q / 16) (q % 16) was long g.handing (rw gives at shut));
     }
 
-module _ (T : Tables) (fits : Fits T) (w : Parts) (order m : List ℕ) (t k q : ℕ) (c : List ℕ) (g : Handed T w order m t k q c) (m' : List ℕ) where
+module _ (T : Tables) (fits : Fits T) (w : Seen) (order : List ℕ) (m : Known) (t k q : ℕ) (c : List ℕ) (g : Handed T w order m t k q c) where
   -- it ends: the pairs passed are known
-  pub handed_ends : m' ≡ set m (80 + t) (q + 1) → 80 + t < length m → ((i : ℕ) → i < open_at m → get_or order i nobody ≡ t → ⊥) → Knows T (carried_parts w c) order m'
-  handed_ends e b none = rw e (knows_passed T (carried_parts w c) order m g.knows (q + 1) t (omega (arith, g.txn, fits.txns)) b g.passed (λ i x y. absurd (none i x y)))
+  pub handed_ends : t < length m.passed → ((i : ℕ) → i < m.open → get_or order i nobody ≡ t → ⊥) → Knows T (carried_parts w c) order (record m { passed = set m.passed t (q + 1) })
+  handed_ends b none = knows_passed T (carried_parts w c) order m g.knows t (q + 1) b g.passed (λ i x y. absurd (none i x y))
 
   -- it goes on: t cannot be closed at the site that was handed the vote, so nobody can
-  pub handed_goes : m' ≡ set m (q % 16) nobody → q % 16 < length m → eqb (closing T (carried_parts w c) t (q % 16)) 0 ≡ false → Goes T w order m' t (k + 1) (q + 1) c
-  handed_goes e b shut =
+  pub handed_goes : eqb (closing T (carried_parts w c) t (q % 16)) 0 ≡ false → Goes T w order (record m { closable = set m.closable (q % 16) Nobody }) t (k + 1) (q + 1) c
+  handed_goes shut =
       let hands = g.handing (eqb-false _ _ shut) in
       record {
         carried = g.carried;
         handing = hands;
-        knows = rw e (knows_code T (carried_parts w c) order m g.knows (q % 16) nobody (omega arith) b (λ u _. hands.closes u (q % 16)));
+        knows = knows_code T (carried_parts w c) order m g.knows (q % 16) Nobody (λ u _. hands.closes u (q % 16));
         passed = g.passed;
       }
-
--- neither a code nor a first position stored changes the position whose transaction may have a vote to carry
-pub open_same : (l m m' : List ℕ) (s v : ℕ) → s < 16 → m ≡ set l s v → ((j : ℕ) → (j ≡ 48 + s → ⊥) → get_or m' j 0 ≡ get_or m j 0) → open_at m' ≡ open_at l
-open_same l m m' s v low e h = h 208 (λ q. absurd (omega arith)) ∙ rw e (get_or-set_other l s 208 v 0 (λ q. absurd (omega arith)))

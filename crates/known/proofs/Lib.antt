@@ -1,4 +1,3 @@
 pub mod Frames
-pub mod Entries
 pub mod Knows
 pub mod Handing

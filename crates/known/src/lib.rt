@@ -1,212 +1,154 @@
 // What SETTLE knows: at first, after each of its steps, and CARRY after CARRY.
 #![tactic(auto)]
 
-ghost use Rattle.std.specs.Prelude.{◌≡◌, ◌⊎◌, List, ℕ, ◌+◌, ◌≤◌, ◌<◌, eqb, get_or, length};
-ghost use Rattle.order.specs.Order.{Ordered};
+ghost use Rattle.std.specs.Prelude.{◌≡◌, List, ℕ, ◌+◌, ◌≤◌, ◌<◌, eqb, get_or, length};
+ghost use Rattle.order.specs.Order.{codes, Ordered};
+ghost use Rattle.plan.specs.Planned.{Laid, Planned};
+ghost use Rattle.parts.specs.Cells.{nobody};
+ghost use Rattle.parts.specs.Changed.{with_votes};
+ghost use Rattle.search.specs.Search.{Seen, seen, closing, todo_in, Deliver, Carry};
+ghost use Rattle.search.specs.Known.{closable_code, Knows, Ranged};
 ghost use Rattle.tables.specs.declared.Tables.{Tables};
-ghost use Rattle.plan.specs.Plan.{txns_of, sites_of, Laid, Plan};
-ghost use Rattle.layout.specs.Layout.{the_delivered, the_closed};
-ghost use Rattle.layout.specs.Cells.{nobody};
-ghost use Rattle.search.specs.Search.{Parts, lent, closing, todo_in};
-ghost use Rattle.search.specs.declared.Todo.TheVariants.{Deliver, Carry};
-ghost use Rattle.search.specs.Known.{Knows, Ranged};
 ghost use Rattle.known.specs.After.{shared, joined, Closed, delivered_parts, carried_parts, Carried};
+
+use order::Order;
+use parts::Parts;
+use plan::Plan;
+use search::{Closable, Known};
 
 // ---- at first
 
-fn put_sites(known: &mut [u16; 209])
-    ensures by_index { (s : ℕ) → s < 16 → (get_or known.new s 0 ≡ 129) × (get_or known.new (64 + s) 0 ≡ 128) }
-    ensures by_index_2 { (j : ℕ) → 16 ≤ j → (j < 64) ⊎ (80 ≤ j) → get_or known.new j 0 ≡ get_or known.old j 0 }
-{
-    let mut s: usize = 0;
-    while s < 16 {
-        search::put(known, s, 129);
-        search::put(known, 64 + s, 128);
-        s += 1;
-    }
-}
-
 // At first nothing.
-pub fn first_known() -> [u16; 209]
-    ensures knows { (T : Tables) (w : Parts) (order : List ℕ) → Ordered w.places T.txns order → length order ≡ 128 → length w.delivered ≡ 2048 → Knows T w order result }
+pub fn first_known() -> Known
+    ensures knows { (T : Tables) (w : Seen) (order : List ℕ) → Ordered w.places T.txns order → length order ≡ 128 → length w.delivered ≡ 2048 → Knows T w order result }
     ensures ranged { Ranged result }
 {
-    let mut known = [0u16; 209];
-    put_sites(&mut known);
-    known
+    Known {
+        closable: [Closable::Anyone; 16],
+        stuck: [false; 16],
+        next: [0; 16],
+        low: [0; 16],
+        top: [128; 16],
+        passed: [0; 128],
+        open: 0,
+    }
 }
 
 // ---- after a step
 
 // After a CLOSE at s: what it blocked may come, and the new head may be closed.
-pub fn after_close<'a, 'b>(
-    order: &'a [u8; 128],
-    flags: &'a [bool; 3072],
-    marks: &'a [u8; 4096],
-    known: &'b mut [u16; 209],
-    s: usize,
-)
+pub fn after_close(order: &Order, w: &Parts, known: &mut Known, s: usize)
     requires { (s < 16) × Ranged known.old }
-    ensures closed { Closed order.now known.old known.new s (the_delivered flags.now) (the_closed marks.now) }
+    ensures closed { Closed (codes order.now) known.old known.new s w.now.delivered w.now.closed }
     ensures ranged { Ranged known.new }
 {
-    let q = known[64 + s];
-    let p = order::head_from(order, flags, marks, s, known[48 + s], q);
-    search::put(known, 48 + s, p);
-    search::put(known, 16 + s, 0);
-    if known[s] != 129 {
-        search::put(known, s, order::head_at(order, p, q) as u16);
+    // Where the array is named, its length is known.
+    let _ = &w.delivered;
+    let q = known.top[s];
+    let p = order::head_from(order, w, s, known.low[s], q);
+    known.low[s] = p;
+    known.stuck[s] = false;
+    if known.closable[s] != Closable::Anyone {
+        known.closable[s] = match order::head_at(order, p, q) {
+            Some(t) => Closable::Only(t as u8),
+            None => Closable::Nobody,
+        };
     }
 }
 
 // Whether the vote of s on t was carried to one of n sites.
-fn is_shared(carried: &[u16; 2048], n: usize, t: usize, s: usize) -> bool
+fn is_shared(w: &Parts, n: usize, t: usize, s: usize) -> bool
     requires { (n ≤ 16) × (t < 128) }
-    ensures { result ≡ shared carried.now n t s }
+    ensures { result ≡ shared w.now.carried n t s }
 {
-    let mut a = n;
-    while 0 < a {
-        a -= 1;
-        if keys::has_site(carried[t * 16 + a], s) {
-            return true;
-        }
-    }
-    false
+    (0..n).any(|a| keys::has(u64::from(w.carried[t * 16 + a]), s))
 }
 
-// Beside those of a code, t may be closed now.
-fn joined(code: u16, t: u16) -> u16
-    ensures { result ≡ joined code t }
+// Beside those, t may be closed now.
+#[tactic(auto, unfolding(crate::specs::After::joined))]
+fn joined(those: Closable, t: u8) -> Closable
+    requires { t < 128 }
+    ensures { closable_code result ≡ joined (closable_code those) t }
 {
-    if code == 128 {
-        return t;
-    }
-    if code == t {
-        return t;
-    }
-    129
-}
-
-// Any may be closed, at each site.
-fn forget(known: &mut [u16; 209])
-    ensures by_index { (s : ℕ) → s < 16 → get_or known.new s 0 ≡ 129 }
-    ensures by_index_2 { (j : ℕ) → 16 ≤ j → get_or known.new j 0 ≡ get_or known.old j 0 }
-{
-    let mut s: usize = 0;
-    while s < 16 {
-        search::put(known, s, 129);
-        s += 1;
+    match those {
+        Closable::Nobody => Closable::Only(t),
+        Closable::Only(u) if u == t || 128 <= u => Closable::Only(t),
+        _ => Closable::Anyone,
     }
 }
 
 // After t, at position p, was delivered at s: its vote is new, and those who hold it already may judge t anew.
-pub fn after_deliver<'a, 'b>(
-    plan: &'a [u64; 3666],
-    carried: &'a [u16; 2048],
-    known: &'b mut [u16; 209],
-    t: usize,
-    s: usize,
-    p: u16,
-)
+pub fn after_deliver(plan: &Plan, w: &Parts, known: &mut Known, t: usize, s: usize, p: usize)
     requires laid { Laid plan.now × Ranged known.old }
     requires t_bound { (t < 128) × ((s < 16) × (p < 128)) }
-    ensures knows { (T : Tables) (w : Parts) (order : List ℕ) (v : ℕ) → Plan T plan.now → todo_in T w ≡ Deliver s → get_or order p nobody ≡ t → t < T.txns → w.carried ≡ carried.now → Knows T w order known.old → Knows T (delivered_parts w t s v) order known.new }
+    ensures knows { (x : Seen) (order : List ℕ) (v : ℕ) → Planned plan.now → todo_in plan.now.tables x ≡ Deliver s → get_or order p nobody ≡ t → t < plan.now.tables.txns → x.carried ≡ w.now.carried → Knows plan.now.tables x order known.old → Knows plan.now.tables (delivered_parts x t s v) order known.new }
     ensures ranged { Ranged known.new }
 {
-    search::put(known, 16 + s, 0);
-    search::put(known, 80 + t, 0);
-    if p < known[48 + s] {
-        search::put(known, 48 + s, p);
-    }
-    if known[64 + s] <= p {
-        search::put(known, 64 + s, p + 1);
-    }
-    if p < known[208] {
-        search::put(known, 208, p);
-    }
-    if is_shared(carried, plan::sites(plan), t, s) {
-        forget(known);
+    known.stuck[s] = false;
+    known.passed[t] = 0;
+    known.low[s] = known.low[s].min(p);
+    known.top[s] = known.top[s].max(p + 1);
+    known.open = known.open.min(p);
+    if is_shared(w, plan.sites, t, s) {
+        known.closable = [Closable::Anyone; 16];
     } else {
-        let code = joined(known[s], t as u16);
-        search::put(known, s, code);
+        known.closable[s] = joined(known.closable[s], t as u8);
     }
 }
 
 // ---- CARRY after CARRY
 
 // Whether t can be closed at s now that s was handed a vote; the head of the queue is found on the way.
-fn closes_now<'a, 'b>(
-    plan: &'a [u64; 3666],
-    order: &'a [u8; 128],
-    numbers: &'a [u32; 4224],
-    flags: &'a [bool; 3072],
-    marks: &'a [u8; 4096],
-    carried: &'a [u16; 2048],
-    known: &'b mut [u16; 209],
-    t: usize,
-    s: usize,
-) -> bool
+fn closes_now(plan: &Plan, order: &Order, w: &Parts, known: &mut Known, t: usize, s: usize) -> bool
     requires laid { Laid plan.now × Ranged known.old }
-    requires t_bound { (t < txns_of plan.now) × (s < 16) }
-    ensures knows { (T : Tables) → let w = lent numbers.now flags.now marks.now carried.now in Plan T plan.now → s < sites_of plan.now → Knows T w order.now known.old → Knows T w order.now known.new × (result ≡ eqb (closing T w t s) 0) }
+    requires t_bound { (t < plan.now.tables.txns) × (s < 16) }
+    ensures knows { Planned plan.now → s < plan.now.sites → Knows plan.now.tables (seen w.now) (codes order.now) known.old → Knows plan.now.tables (seen w.now) (codes order.now) known.new × (result ≡ eqb (closing plan.now.tables (seen w.now) t s) 0) }
     ensures ranged { Ranged known.new }
-    ensures by_index { (j : ℕ) → (j ≡ 48 + s → ⊥) → get_or known.new j 0 ≡ get_or known.old j 0 }
+    ensures kept { known.new ≡ record known.old { low = known.new.low } }
 {
-    if queues::is_queued(flags, marks, t, s) {
-        let q = known[64 + s];
-        let p = order::head_from(order, flags, marks, s, known[48 + s], q);
-        search::put(known, 48 + s, p);
-        return search::can_close(
-            plan,
-            numbers,
-            flags,
-            marks,
-            carried,
-            t,
-            s,
-            order::head_at(order, p, q),
-        );
+    if !queues::is_queued(w, t, s) {
+        return false;
     }
-    false
+    // Where the array is named, its length is known.
+    let _ = &w.delivered;
+    let q = known.top[s];
+    let p = order::head_from(order, w, s, known.low[s], q);
+    known.low[s] = p;
+    search::can_close(plan, w, t, s, order::head_at(order, p, q))
 }
 
 // CARRY of votes on t, one after the other, until one can be closed by it, none is left or n were carried; the answer is how many were.
-pub fn carry_on<'a, 'b>(
-    plan: &'a [u64; 3666],
-    order: &'a [u8; 128],
-    numbers: &'a [u32; 4224],
-    flags: &'a [bool; 3072],
-    marks: &'a [u8; 4096],
-    carried: &'b mut [u16; 2048],
-    known: &'b mut [u16; 209],
+pub fn carry_on(
+    plan: &Plan,
+    order: &Order,
+    w: &mut Parts,
+    known: &mut Known,
     t: usize,
     n: u32,
 ) -> u32
     requires laid { Laid plan.now × Ranged known.old }
-    requires t_bound { t < txns_of plan.now }
-    ensures carried { (T : Tables) (from to : ℕ) → let w = lent numbers.now flags.now marks.now carried.old in Plan T plan.now → Knows T w order.now known.old → todo_in T w ≡ Carry t from to → Carried T w result carried.new × (Knows T (carried_parts w carried.new) order.now known.new × (0 < n → 0 < result)) }
+    requires t_bound { t < plan.now.tables.txns }
+    ensures carried { («from» to : ℕ) → Planned plan.now → Knows plan.now.tables (seen w.old) (codes order.now) known.old → todo_in plan.now.tables (seen w.old) ≡ Carry t «from» to → Carried plan.now.tables (seen w.old) result w.new.carried × (Knows plan.now.tables (carried_parts (seen w.old) w.new.carried) (codes order.now) known.new × (0 < n → 0 < result)) }
+    ensures kept { w.new ≡ with_votes w.old w.new.carried }
     ensures ranged { Ranged known.new × (result ≤ n) }
 {
     let mut k: u32 = 0;
-    let mut q = known[80 + t];
-    while q < 256 {
-        if k == n {
-            break;
-        }
-        let f = q as usize / 16;
-        let s = q as usize % 16;
-        if search::can_carry(plan, marks, carried, t, f, s) {
-            rules::hand(carried, t * 16 + s, f);
+    let mut q = known.passed[t];
+    // What is left of the pairs is remembered, so the pair is not the loop's own.
+    while q < 256 && k < n {
+        let (f, s) = (q / 16, q % 16);
+        if search::can_carry(plan, w, t, f, s) {
+            rules::hand(&mut w.carried, t * 16 + s, f);
             k += 1;
-            search::put(known, s, t as u16);
-            if closes_now(plan, order, numbers, flags, marks, carried, known, t, s) {
-                search::put(known, 80 + t, q + 1);
+            known.closable[s] = Closable::Only(t as u8);
+            if closes_now(plan, order, w, known, t, s) {
+                known.passed[t] = q + 1;
                 return k;
             }
-            search::put(known, s, 128);
+            known.closable[s] = Closable::Nobody;
         }
         q += 1;
     }
-    search::put(known, 80 + t, q);
+    known.passed[t] = q;
     k
 }

@@ -1,1 +1,2 @@
 pub mod OneDigit
+pub mod Lowest

@@ -1,12 +1,13 @@
 -- The lines of a listing: each step, then each transaction, then each held key of each site.
-use Rattle.std.specs.Prelude.{ℕ, suc, ◌+◌, ◌*◌, cond, List, [], ◌∷◌, ◌++◌, ltb, get_or}
-use Rattle.layout.specs.Cells.{place_in, cell, version_in}
+use Rattle.std.specs.Prelude.{ℕ, suc, ◌+◌, ◌*◌, cond, List, [], ◌∷◌, ◌++◌, ltb, get_or, Result}
+use Rattle.parts.specs.Cells.{place_in, cell, version_in}
 use Rattle.bounded.specs.Bounded.{least_below}
 use Rattle.keys.specs.Keys.{member}
 use Rattle.tables.specs.Sites.{site_count, site_keys}
 use Rattle.search.specs.Search.{nowhere}
 use Rattle.steps.specs.Answers.{numbers_of}
 use Rattle.machine.specs.declared.State.{State}
+use Rattle.numbers.specs.declared.StepRefusal.{StepRefusal}
 use Rattle.steps.specs.declared.Answer.{Answer}
 use Rattle.steps.specs.declared.Numbers.{Numbers}
 use Rattle.steps.specs.declared.Place.{Place}
@@ -20,7 +21,7 @@ step_word = 83 ∷ 84 ∷ 69 ∷ 80 ∷ []
 abbrev pub step_line : ℕ → Numbers → List ℕ
 step_line i n = line_of step_word (i ∷ n.code ∷ n.first ∷ n.second ∷ [])
 
-unfoldable pub step_lines : ℕ → List Answer → List ℕ
+unfoldable pub step_lines : ℕ → List (Result Answer StepRefusal) → List ℕ
 step_lines i [] = []
 step_lines i (a ∷ l) = step_line i (numbers_of a) ++ step_lines (suc i) l
 
@@ -58,5 +59,5 @@ file_line n at = line_of file_word (n ∷ at ∷ [])
 -- what is listed of the state at the end
 unfoldable pub state_lines : State → List ℕ
 state_lines st =
-    each st.tables.txns (txn_line st.places st.closed (site_count st.tables))
-    ++ each (site_count st.tables) (λ s. item_lines st.versions st.values (site_keys st.tables s) st.tables.keys s)
+    each st.tables.txns (txn_line st.parts.places st.parts.closed (site_count st.tables))
+    ++ each (site_count st.tables) (λ s. item_lines st.parts.versions st.parts.values (site_keys st.tables s) st.tables.keys s)

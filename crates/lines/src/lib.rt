@@ -6,27 +6,28 @@ ghost use Rattle.machine.specs.Usable.{usable};
 ghost use Rattle.steps.specs.Answers.{numbers_of};
 ghost use Rattle.keys.specs.Keys.{member};
 ghost use Rattle.tables.specs.Sites.{site_count, site_keys};
-ghost use Rattle.text.specs.Text.{line_of, each};
-ghost use Rattle.text.specs.Wrote.{Wrote};
-ghost use Rattle.lines.specs.Lines.{step_line, verdict_in, txn_line, item_word, item_lines, state_lines};
+ghost use Rattle.text.specs.Text.{each};
+ghost use Rattle.text.specs.Wrote.{Writes};
+ghost use Rattle.lines.specs.Lines.{step_line, verdict_in, txn_line, item_line, item_lines, state_lines};
 
 use machine::State;
-use steps::{Answer, Place, Version};
-use tables::Tables;
+use numbers::StepRefusal;
+use steps::{Answer, Numbers};
+use text::Writer;
 
 // STEP, index, answer, two numbers.
-pub fn put_step(out: &mut [u8], at: usize, i: u32, a: Answer) -> usize
-    requires { (i < 100000) × (at + 36 < 2 ^ 64) }
-    ensures wrote { Wrote out.old at out.new result (step_line i (numbers_of a)) }
-    ensures upper_bound { result ≤ at + 36 }
+pub fn put_step(w: &mut Writer, i: u32, a: Result<Answer, StepRefusal>)
+    requires { (i < 100000) × (w.old.at + 36 < 2 ^ 64) }
+    ensures wrote { Writes w.old w.new (step_line i (numbers_of a)) }
+    ensures upper_bound { w.new.at ≤ w.old.at + 36 }
 {
-    let n = steps::numbers_of(a);
-    let mut next = text::put_text(out, at, b"STEP");
-    next = text::put_field(out, next, i);
-    next = text::put_field(out, next, n.code);
-    next = text::put_field(out, next, n.first);
-    next = text::put_field(out, next, n.second);
-    text::put_byte(out, next, b'\n')
+    let n = Numbers::from(a);
+    w.text(b"STEP");
+    w.field(i);
+    w.field(n.code);
+    w.field(n.first);
+    w.field(n.second);
+    w.byte(b'\n');
 }
 
 // The verdict on t: 0 open, else that of the lowest of n sites that closed it.
@@ -34,114 +35,72 @@ fn verdict_of(closed: &[u8; 2048], n: usize, t: usize) -> u8
     requires { (n ≤ 16) × (t < 128) }
     ensures { result ≡ verdict_in closed.now n t }
 {
-    let mut s: usize = 0;
-    while s < n {
-        let v = closed[t * 16 + s];
-        if 0 < v {
-            return v;
-        }
-        s += 1;
-    }
-    0
+    (0..n)
+        .map(|s| closed[t * 16 + s])
+        .find(|v| *v != 0)
+        .unwrap_or(0)
 }
 
-// TXN, number, place, verdict: of each of n transactions at so many sites.
-fn put_txns(
-    places: [Place; 128],
-    closed: &[u8; 2048],
-    sites: usize,
-    n: u8,
-    out: &mut [u8],
-    at: usize,
-) -> usize
-    requires { (sites ≤ 16) × ((n ≤ 128) × (at + 37 * n < 2 ^ 64)) }
-    ensures wrote { Wrote out.old at out.new result (each n (txn_line places closed.now sites)) }
-    ensures upper_bound { result ≤ at + 37 * n }
+// TXN, number, place, verdict: of each transaction.
+fn put_txns(st: &State, w: &mut Writer)
+    requires sites { (st.now.tables.groups ≤ 8) × ((site_count st.now.tables ≤ 16) × (st.now.tables.txns ≤ 128)) }
+    requires at_bound { w.old.at + 37 * st.now.tables.txns < 2 ^ 64 }
+    ensures wrote { Writes w.old w.new (each st.now.tables.txns (txn_line st.now.parts.places st.now.parts.closed (site_count st.now.tables))) }
+    ensures upper_bound { w.new.at ≤ w.old.at + 37 * st.now.tables.txns }
 {
-    let mut next = at;
-    let mut t: u8 = 0;
-    while t < n {
-        let Place(p) = places[t as usize];
-        let v = verdict_of(closed, sites, t as usize);
-        let fields = [t as u32, p, v as u32];
-        next = text::put_line(out, next, b"TXN", &fields);
-        t += 1;
+    let sites = st.tables.sites();
+    for t in 0..st.tables.txns {
+        let at = usize::from(t);
+        let place = st.parts.places[at].0;
+        let verdict = verdict_of(&st.parts.closed, sites, at);
+        w.line(b"TXN", &[u32::from(t), place, u32::from(verdict)]);
     }
-    next
 }
 
 // ITEM, site, key, version, value, where key k is in the set m; else nothing.
-fn put_item(out: &mut [u8], at: usize, m: u64, s: u32, k: u8, v: u32, x: u32) -> usize
-    requires { at + 49 < 2 ^ 64 }
-    ensures wrote { Wrote out.old at out.new result (cond (member m k) (line_of item_word (s ∷ k ∷ v ∷ x ∷ [])) []) }
-    ensures upper_bound { result ≤ at + 49 }
+fn put_item(st: &State, w: &mut Writer, m: u64, s: usize, k: u8)
+    requires { (s < 16) × ((k < 64) × (w.old.at + 49 < 2 ^ 64)) }
+    ensures wrote { Writes w.old w.new (cond (member m k) (item_line st.now.parts.versions st.now.parts.values s k) []) }
+    ensures upper_bound { w.new.at ≤ w.old.at + 49 }
 {
-    if keys::has_key(m, k) {
-        let fields = [s, k as u32, v, x];
-        return text::put_line(out, at, b"ITEM", &fields);
+    let key = usize::from(k);
+    if keys::has(m, key) {
+        let at = s * 64 + key;
+        let version = st.parts.versions[at].0;
+        let value = st.parts.values[at];
+        w.line(b"ITEM", &[s as u32, u32::from(k), version, value]);
     }
-    at
 }
 
-// The items of site s, whose keys are the set m, of the first n keys.
-fn put_items(
-    versions: [Version; 1024],
-    values: &[u32; 1024],
-    m: u64,
-    n: u8,
-    s: usize,
-    out: &mut [u8],
-    at: usize,
-) -> usize
-    requires { (s < 16) × ((n ≤ 64) × (at + 49 * n < 2 ^ 64)) }
-    ensures wrote { Wrote out.old at out.new result (item_lines versions values.now m n s) }
-    ensures upper_bound { result ≤ at + 49 * n }
+// The items of site s, whose keys are the set m.
+fn put_items(st: &State, w: &mut Writer, m: u64, s: usize)
+    requires { (s < 16) × ((st.now.tables.keys ≤ 64) × (w.old.at + 49 * st.now.tables.keys < 2 ^ 64)) }
+    ensures wrote { Writes w.old w.new (item_lines st.now.parts.versions st.now.parts.values m st.now.tables.keys s) }
+    ensures upper_bound { w.new.at ≤ w.old.at + 49 * st.now.tables.keys }
 {
-    let mut next = at;
-    let mut k: u8 = 0;
-    while k < n {
-        let Version(v) = versions[s * 64 + k as usize];
-        let x = values[s * 64 + k as usize];
-        next = put_item(out, next, m, s as u32, k, v, x);
-        k += 1;
+    for k in 0..st.tables.keys {
+        put_item(st, w, m, s, k);
     }
-    next
 }
 
 // The items of each site.
-fn put_sites(
-    tables: Tables,
-    versions: [Version; 1024],
-    values: &[u32; 1024],
-    out: &mut [u8],
-    at: usize,
-) -> usize
-    requires groups_bound { (tables.groups ≤ 8) × ((site_count tables ≤ 16) × (tables.keys ≤ 64)) }
-    requires at_bound { at + 50176 < 2 ^ 64 }
-    ensures wrote { Wrote out.old at out.new result (each (site_count tables) (λ s. item_lines versions values.now (site_keys tables s) tables.keys s)) }
-    ensures upper_bound { result ≤ at + 50176 }
+fn put_sites(st: &State, w: &mut Writer)
+    requires groups_bound { (st.now.tables.groups ≤ 8) × ((site_count st.now.tables ≤ 16) × (st.now.tables.keys ≤ 64)) }
+    requires at_bound { w.old.at + 50176 < 2 ^ 64 }
+    ensures wrote { Writes w.old w.new (each (site_count st.now.tables) (λ s. item_lines st.now.parts.versions st.now.parts.values (site_keys st.now.tables s) st.now.tables.keys s)) }
+    ensures upper_bound { w.new.at ≤ w.old.at + 50176 }
 {
-    let n = tables::sites_in(&tables.sizes, tables.groups);
-    let mut next = at;
-    let mut s: usize = 0;
-    while s < n {
-        let m = tables::site_keys(&tables.sizes, &tables.masks, tables.groups, s);
-        next = put_items(versions, values, m, tables.keys, s, out, next);
-        s += 1;
+    for s in 0..st.tables.sites() {
+        put_items(st, w, st.tables.site_keys(s), s);
     }
-    next
 }
 
 // What is listed of the state at the end.
-pub fn put_state(st: State, out: &mut [u8], at: usize) -> usize
-    requires { (usable st ≡ true) × (at + 54912 < 2 ^ 64) }
-    ensures wrote { Wrote out.old at out.new result (state_lines st) }
-    ensures upper_bound { result ≤ at + 54912 }
+pub fn put_state(st: &State, w: &mut Writer)
+    requires { (usable st.now ≡ true) × (w.old.at + 54912 < 2 ^ 64) }
+    ensures wrote { Writes w.old w.new (state_lines st.now) }
+    ensures upper_bound { w.new.at ≤ w.old.at + 54912 }
 {
-    let sites = tables::sites_in(&st.tables.sizes, st.tables.groups);
-    let places = st.places;
-    let next = put_txns(places, &st.closed, sites, st.tables.txns, out, at);
-    let tables = st.tables;
-    let versions = st.versions;
-    put_sites(tables, versions, &st.values, out, next)
+    put_txns(st, w);
+    put_sites(st, w);
 }

@@ -1,15 +1,16 @@
 -- The listing of a file, and what the C caller gets.
-use Rattle.std.specs.Prelude.{ℕ, ◌+◌, cond, List, ◌++◌, leb, ℤ, pos, neg_ℤ, length, take, drop}
+use Rattle.std.specs.Prelude.{ℕ, ◌+◌, cond, List, ◌++◌, leb, ℤ, pos, neg_ℤ, length, take, drop, Result, Ok, Err}
 use Rattle.files.specs.Cut.{cut_of}
 use Rattle.files.specs.Schedule.{steps_of}
 use Rattle.files.specs.File.{file_of}
-use Rattle.files.specs.declared.Outcome.{Outcome}
+use Rattle.files.specs.declared.Refused.{Refused}
+use Rattle.numbers.specs.Numbers.{file_number}
+use Rattle.numbers.specs.declared.FileRefusal.{FileRefusal}
 use Rattle.files.specs.declared.Where.{Where}
 use Rattle.files.specs.declared.Where.TheVariants.{InSetup, InSchedule}
 use Rattle.lines.specs.Lines.{step_lines, state_lines, file_line}
 use Rattle.tables.specs.declared.Tables.{Tables}
 use Rattle.machine.specs.Fresh.{fresh_of}
-use Rattle.files.specs.declared.Outcome.TheVariants as outcome
 use Rattle.listing.specs.Run.{end_of, answers_of}
 
 pub data Listing : Type 0 where
@@ -29,9 +30,9 @@ lines_of T schedule =
     let steps = steps_of schedule in
     step_lines 0 (answers_of st steps) ++ state_lines (end_of st steps)
 
-abbrev pub list_by : ℕ → Tables → List ℕ → Outcome → Listing
-list_by c T schedule outcome.Fine = listed (lines_of T schedule)
-list_by c T schedule (outcome.Refused n at) = refused n (offset_of c at)
+abbrev pub list_by : ℕ → Tables → List ℕ → Result (Unit {0}) Refused → Listing
+list_by c T schedule (Ok _) = listed (lines_of T schedule)
+list_by c T schedule (Err r) = refused (file_number r.why) (offset_of c r.at)
 
 unfoldable pub listing_of : List ℕ → Listing
 listing_of file =
@@ -53,6 +54,11 @@ in_room room (listed bytes) = cond (leb (length bytes) room) (listed bytes) (ref
 abbrev pub answer_of : Listing → ℤ
 answer_of (refused n at) = neg_ℤ (pos n)
 answer_of (listed bytes) = pos (length bytes)
+
+-- the same of a length or a refusal
+abbrev pub answer_by : Result ℕ FileRefusal → ℤ
+answer_by (Ok n) = pos n
+answer_by (Err r) = neg_ℤ (pos (file_number r))
 
 -- and the output afterwards: bytes past the listing as lent, or all as lent
 abbrev pub left_of : Listing → List ℕ → List ℕ

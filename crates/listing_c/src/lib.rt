@@ -10,5 +10,8 @@ pub extern "C" fn pstore_list(file: &[u8], out: &mut [u8]) -> i64
     ensures value { result ≡ answer_of (in_room (length out.old) (listing_of file.now)) }
     ensures out_after { out.new ≡ left_of (in_room (length out.old) (listing_of file.now)) out.old }
 {
-    listing::pstore_list(file, out)
+    match listing::list(file, out) {
+        Ok(n) => n as i64,
+        Err(refusal) => -i64::from(refusal.number()),
+    }
 }

@@ -1,18 +1,9 @@
 -- SETTLE's fuel is enough: each step takes one off what is left to do, no state has more than 34,816 left, so at the end nothing is accepted.
 -- Assumes nothing.
-use Prim.Native.Nat.{ℕ, zero, suc, ◌+◌, ◌*◌, ◌%◌, ◌≤◌, ◌<◌}
-use mathlib.Core.Path.{◌≡◌, refl, ◌∙◌}
-use mathlib.Core.Bool.{Bool, true, false, ◌&&◌, not, cond}
-use mathlib.Core.Logic.{◌⊎◌, inl, inr}
-use mathlib.Core.List.{List}
-use native.Mathlib.Omega.{arith}
-use native.Mathlib.Numerals.{sub-one}
-use lib.Dec.{eqb, ltb}
-use lib.ListN.{length, get_or, set, length-set}
-use lib.Seq.{get_or-set_same, get_or-set_other}
-use borrow.Author.Tests.{eq-eqb, ne_eqb, not-true}
+use Rattle.std.proofs.Common.{ℕ, zero, suc, ◌+◌, ◌*◌, ◌%◌, ◌≤◌, ◌<◌, ◌≡◌, refl, ◌∙◌, Bool, true, false, ◌&&◌, not, cond, ◌⊎◌, inl, inr, List, arith, sub-one, eqb, ltb, length, get_or, set, length-set, get_or-set_same, get_or-set_other, eq-eqb, ne_eqb}
+use Rattle.std.proofs.lemmas.Bool.{not-true}
 use Rattle.queues.specs.Queue.{waits, next_in}
-use Rattle.layout.specs.Cells.{place_in, nobody}
+use Rattle.parts.specs.Cells.{place_in, nobody}
 use Rattle.bounded.specs.Bounded.{sum_below}
 use Rattle.bounded.proofs.Truth.{and-true}
 use Rattle.bounded.proofs.Laws.{first-is, sum_same, sum_less, sum_most}
@@ -29,16 +20,16 @@ use Rattle.machine.specs.declared.State.{State}
 use Rattle.refusals.proofs.Passed.{deliver_has, carry_has}
 use Rattle.search.proofs.Closes.{close_has}
 use Rattle.search.proofs.Accepted.{next_says, nothing_closes, nothing_delivers, nothing_carries}
-use Rattle.search.specs.declared.Todo.{Todo}
-use Rattle.search.specs.declared.Todo.TheVariants.{Close, Deliver, Carry, Nothing}
+use Rattle.search.specs.Search.{Todo}
+use Rattle.search.specs.Search.{Close, Deliver, Carry, Nothing}
 use Rattle.machine.proofs.Laws.{usable_has, usable_fits}
 use Rattle.machine.proofs.Settle.{Accepted, todo_accepted, after_usable, settle_stops, settle_goes, settle_ends}
 
 -- the arrays are as long as they are declared
 pub record Sized (st : State) : Type 0 where
-  pub delivered : length st.delivered ≡ 2048
-  pub closed : length st.closed ≡ 2048
-  pub carried : length st.carried ≡ 2048
+  pub delivered : length st.parts.delivered ≡ 2048
+  pub closed : length st.parts.closed ≡ 2048
+  pub carried : length st.parts.carried ≡ 2048
 
 -- left at cell i: a delivery, a closing, the votes of the other sites
 abbrev undelivered : List Bool → ℕ → ℕ
@@ -54,7 +45,7 @@ abbrev uncarried : List ℕ → ℕ → ℕ
 uncarried l i = sum_below 16 (lacking l i)
 
 unfoldable left : State → ℕ
-left st = sum_below 2048 (undelivered st.delivered) + sum_below 2048 (unclosed st.closed) + sum_below 2048 (uncarried st.carried)
+left st = sum_below 2048 (undelivered st.parts.delivered) + sum_below 2048 (unclosed st.parts.closed) + sum_below 2048 (uncarried st.parts.carried)
 
 few : (a b : ℕ) (c : Bool) → a ≤ 1 → b ≤ 1 → cond c a b ≤ 1
 few a b true h k = h
@@ -75,16 +66,16 @@ left_most : (st : State) → left st ≤ most
 unfolding left
 left_most st = omega (
   arith,
-  sum_most 2048 1 (undelivered st.delivered) (λ i l. one (get_or st.delivered i false)),
-  sum_most 2048 1 (unclosed st.closed) (λ i l. few 1 0 (eqb (get_or st.closed i 0) 0) (omega arith) (omega arith)),
-  sum_most 2048 15 (uncarried st.carried) (λ i l. others st.carried i),
+  sum_most 2048 1 (undelivered st.parts.delivered) (λ i l. one (get_or st.parts.delivered i false)),
+  sum_most 2048 1 (unclosed st.parts.closed) (λ i l. few 1 0 (eqb (get_or st.parts.closed i 0) 0) (omega arith) (omega arith)),
+  sum_most 2048 15 (uncarried st.parts.carried) (λ i l. others st.parts.carried i),
 )
 
 -- what waits is not delivered
 next_waits : (st : State) (s : ℕ) → st.tables.txns ≤ 128 → next_at st s < st.tables.txns → delivered_at st (next_at st s) s ≡ false
 unfolding next_in
 next_waits st s l low =
-    elim (first-is st.tables.txns (place_in st.places) (λ t. waits (place_of st t) (delivered_at st t s) (concerns st.tables t s)) nobody l) [
+    elim (first-is st.tables.txns (place_in st.parts.places) (λ t. waits (place_of st t) (delivered_at st t s) (concerns st.tables t s)) nobody l) [
       | inl f ↦
           let t = next_at st s in
           let w = (and-true (ltb 0 (place_of st t)) (not (delivered_at st t s) && concerns st.tables t s) f.passes).1 in
@@ -121,23 +112,23 @@ left_less : (st : State) (x : Todo) → Sized st → usable st ≡ true → Acce
 unfolding left deliver_done carry_done close_done committed
 left_less st (Deliver s) z h a d =
     let u = usable_has st h in
-    let (q, l) = deliver_has st.tables st.places st.delivered st.closed s (usable_fits st h) a in
-    omega (arith, delivered_less st.delivered (next_at st s * 16 + s) z.delivered (omega (arith, u.txns, u.sites)) (next_waits st s u.txns l))
+    let (q, l) = deliver_has st.tables st.parts.places st.parts.delivered st.parts.closed s (usable_fits st h) a in
+    omega (arith, delivered_less st.parts.delivered (next_at st s * 16 + s) z.delivered (omega (arith, u.txns, u.sites)) (next_waits st s u.txns l))
 left_less st (Close t s) z h a d =
     let u = usable_has st h in
     let g = close_has st.tables (parts_of st) t s a in
-    let e = closed_less st.closed (t * 16 + s) (verdict st t s) z.closed (omega (arith, u.txns, u.sites, g.txn, g.site)) g.unclosed g.known in
+    let e = closed_less st.parts.closed (t * 16 + s) (verdict st t s) z.closed (omega (arith, u.txns, u.sites, g.txn, g.site)) g.unclosed g.known in
     stored (eqb (verdict st t s) 1) e
   where
-    stored : (b : Bool) → suc (sum_below 2048 (unclosed (set st.closed (t * 16 + s) (verdict st t s)))) ≡ sum_below 2048 (unclosed st.closed)
+    stored : (b : Bool) → suc (sum_below 2048 (unclosed (set st.parts.closed (t * 16 + s) (verdict st t s)))) ≡ sum_below 2048 (unclosed st.parts.closed)
         → suc (left (with_closed (cond b (committed st t s) st) t s (verdict st t s))) ≡ left st
     stored true e = omega arith
     stored false e = omega arith
 left_less st (Carry t from to) z h a d =
     let u = usable_has st h in
-    let g = carry_has st.tables st.cast st.carried t from to a in
+    let g = carry_has st.tables st.parts.cast st.parts.carried t from to a in
     let r : (t * 16 + to) % 16 ≡ to = omega (arith, u.sites, g.taker) in
-    omega (arith, carried_less st.carried (t * 16 + to) from z.carried (omega (arith, u.txns, u.sites, g.txn, g.taker)) (omega (arith, u.sites, g.giver)) (λ e. g.differ (e ∙ r)) g.lacks)
+    omega (arith, carried_less st.parts.carried (t * 16 + to) from z.carried (omega (arith, u.txns, u.sites, g.txn, g.taker)) (omega (arith, u.sites, g.giver)) (λ e. g.differ (e ∙ r)) g.lacks)
 left_less st Nothing z h a d = absurd (d refl)
 
 after_sized : (st : State) (x : Todo) → Sized st → Sized (after st x)
@@ -145,10 +136,10 @@ unfolding deliver_done carry_done close_done committed
 after_sized st (Close t s) z = stored (eqb (verdict st t s) 1)
   where
     stored : (b : Bool) → Sized (with_closed (cond b (committed st t s) st) t s (verdict st t s))
-    stored true = record { delivered = z.delivered; closed = length-set st.closed _ _ ∙ z.closed; carried = z.carried }
-    stored false = record { delivered = z.delivered; closed = length-set st.closed _ _ ∙ z.closed; carried = z.carried }
-after_sized st (Deliver s) z = record { delivered = length-set st.delivered _ _ ∙ z.delivered; closed = z.closed; carried = z.carried }
-after_sized st (Carry t from to) z = record { delivered = z.delivered; closed = z.closed; carried = length-set st.carried _ _ ∙ z.carried }
+    stored true = record { delivered = z.delivered; closed = length-set st.parts.closed _ _ ∙ z.closed; carried = z.carried }
+    stored false = record { delivered = z.delivered; closed = length-set st.parts.closed _ _ ∙ z.closed; carried = z.carried }
+after_sized st (Deliver s) z = record { delivered = length-set st.parts.delivered _ _ ∙ z.delivered; closed = z.closed; carried = z.carried }
+after_sized st (Carry t from to) z = record { delivered = z.delivered; closed = z.closed; carried = length-set st.parts.carried _ _ ∙ z.carried }
 after_sized st Nothing z = z
 
 pub is_nothing : (x : Todo) → (x ≡ Nothing) ⊎ (x ≡ Nothing → ⊥)

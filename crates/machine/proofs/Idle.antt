@@ -1,15 +1,8 @@
 -- Where SETTLE is known to have nothing to do, it has nothing to do.
 -- Assumes nothing.
-use Prim.Native.Nat.{ℕ, zero, suc, ◌+◌, ◌<◌}
-use mathlib.Core.Path.{◌≡◌, refl}
-use mathlib.Core.Bool.{Bool, true, false, cond}
-use mathlib.Core.Logic.{◌⊎◌, inl, inr}
-use native.Mathlib.Omega.{arith}
-use native.Mathlib.Numerals.{sub-one}
-use lib.Dec.{eqb}
-use borrow.Author.Tests.{ltb-true}
+use Rattle.std.proofs.Common.{ℕ, zero, suc, ◌+◌, ◌<◌, ◌≡◌, refl, Bool, true, false, cond, ◌⊎◌, inl, inr, arith, sub-one, eqb, ltb-true, Ok}
 use Rattle.bounded.proofs.Truth.{clash}
-use Rattle.search.specs.declared.Todo.TheVariants.{Nothing}
+use Rattle.search.specs.Search.{Nothing}
 use Rattle.steps.specs.declared.Answer.TheVariants as answer
 use Rattle.steps.specs.declared.Step.{Step}
 use Rattle.steps.specs.declared.Step.TheVariants.{Read, Submit, Deliver, Carry, Close, Settle}
@@ -26,7 +19,7 @@ use Rattle.machine.proofs.Ends.{is_nothing}
 -- SETTLE answers with a count; where that is less than it may take, nothing is left
 pub record Settles (f n : ℕ) (r : Stepped) : Type 0 where
   pub count : ℕ
-  pub says : r.answer ≡ answer.Settled count
+  pub says : r.answer ≡ Ok (answer.Settled count)
   pub ends : count < n + f → todo r.next ≡ Nothing
 
 settles : (f n : ℕ) (st : State) → Settles f n (settle_for f n st)

@@ -1,17 +1,10 @@
 -- A fresh state is usable, and a usable state stays so, whatever step is taken.
 -- Assumes nothing.
-use Prim.Native.Nat.{ℕ, zero, suc, ◌+◌, ◌-◌, ◌≤◌, ◌<◌}
-use mathlib.Core.Path.{◌≡◌, refl, ap, ◌∙◌}
-use mathlib.Core.Bool.{Bool, true, false, ◌&&◌, ◌||◌, cond}
-use mathlib.Core.Logic.{inl, inr}
-use mathlib.Core.List.{List}
-use native.Mathlib.Omega.{arith}
-use lib.Dec.{eqb, leb, ltb}
-use lib.ListN.{set, length, length-set, replicate, length-replicate, get_or-replicate}
-use lib.Seq.{get_or-set_same, get_or-set_other}
-use borrow.Author.Tests.{eqb-true, eqb-false, le-leb, leb-false, ltb-true, ltb-false}
+use Rattle.std.proofs.Common.{ℕ, zero, suc, ◌+◌, ◌-◌, ◌≤◌, ◌<◌, ◌≡◌, refl, ap, ◌∙◌, Bool, true, false, ◌&&◌, ◌||◌, cond, inl, inr, List, arith, eqb, leb, ltb, set, length, length-set, replicate, get_or-set_same, get_or-set_other, eqb-true, le-leb, leb-false, ltb-true, ltb-false}
+use Rattle.std.proofs.lemmas.List.{length-replicate, get_or-replicate}
+use Rattle.std.proofs.lemmas.Bool.{eqb-false}
 use Rattle.queues.specs.Queue.{submitted_in}
-use Rattle.layout.specs.Cells.{place_in}
+use Rattle.parts.specs.Cells.{place_in}
 use Rattle.bounded.specs.Bounded.{all_below, sum_below, first_of}
 use Rattle.bounded.proofs.Truth.{and-true, and_put, or-false, bool, same, passed}
 use Rattle.bounded.proofs.Laws.{else-none, of_none, all_get, all_put, count_short}
@@ -36,8 +29,8 @@ use Rattle.machine.specs.Settle.{todo, after, most, settle_for, settle_done}
 use Rattle.machine.specs.Fresh.{start_of, fresh_of}
 use Rattle.machine.specs.Steps.{refused, done, decided, step_of}
 use Rattle.machine.specs.declared.State.{State}
-use Rattle.search.specs.declared.Todo.{Todo}
-use Rattle.search.specs.declared.Todo.TheVariants as todo
+use Rattle.search.specs.Search.{Todo}
+use Rattle.search.specs.Search as todo
 use Rattle.machine.proofs.Laws.{usable_has}
 use Rattle.machine.proofs.Settle.{after_usable}
 use Rattle.machine.proofs.Ends.{settle_usable}
@@ -59,7 +52,7 @@ place_fits places n t p l b h = all_put n (λ i. leb (place_in (set places t (pl
       rw q (all_get n (λ i. leb (place_in places i) 128) h i k)
 ])
 
-submit_usable : (st : State) (t : ℕ) → length st.places ≡ 128 → usable st ≡ true → submit_refusal st t ≡ 0 → usable (submit_done st t).next ≡ true
+submit_usable : (st : State) (t : ℕ) → length st.parts.places ≡ 128 → usable st ≡ true → submit_refusal st t ≡ 0 → usable (submit_done st t).next ≡ true
 unfolding usable submit_done submit_refusal_in
 submit_usable st t z h e =
     let u = usable_has st h in
@@ -67,11 +60,11 @@ submit_usable st t z h e =
     let (a, e1) = passed 20 (omega arith) (leb T.txns t) _ e in
     let l : t < T.txns = leb-false T.txns t a in
     let p : place_of st t ≡ 0 = omega (arith, ltb-false 0 (place_of st t) (passed 24 (omega arith) (ltb 0 (place_of st t)) _ e1).0) in
-    let (c, r) = and-true (counts_fit T.keys T.groups T.sizes T.txns) (txns_fit T.keys T.reads T.nreads T.writes T.nwrites T.txns && places_fit st.places T.txns) h in
-    let (x, f) = and-true (txns_fit T.keys T.reads T.nreads T.writes T.nwrites T.txns) (places_fit st.places T.txns) r in
-    and_put _ _ c (and_put _ _ x (place_fits st.places T.txns t (submitted_in st.places T.txns + 1) (omega (arith, u.txns)) (omega (arith, u.txns, few_placed st.places T.txns t l p)) f))
+    let (c, r) = and-true (counts_fit T.keys T.groups T.sizes T.txns) (txns_fit T.keys T.reads T.nreads T.writes T.nwrites T.txns && places_fit st.parts.places T.txns) h in
+    let (x, f) = and-true (txns_fit T.keys T.reads T.nreads T.writes T.nwrites T.txns) (places_fit st.parts.places T.txns) r in
+    and_put _ _ c (and_put _ _ x (place_fits st.parts.places T.txns t (submitted_in st.parts.places T.txns + 1) (omega (arith, u.txns)) (omega (arith, u.txns, few_placed st.parts.places T.txns t l p)) f))
 
-done_usable : (st : State) (x : Step) → length st.places ≡ 128 → usable st ≡ true → refusal st x ≡ 0 → usable (done st x).next ≡ true
+done_usable : (st : State) (x : Step) → length st.parts.places ≡ 128 → usable st ≡ true → refusal st x ≡ 0 → usable (done st x).next ≡ true
 unfolding done refusal_in settle_done
 done_usable st (Read t i s) z h e = unfold usable read_done in h
 done_usable st (Submit t) z h e = submit_usable st t z h e
@@ -81,7 +74,7 @@ done_usable st (Close t s) z h e = after_usable st (todo.Close t s) h
 done_usable st Settle z h e = settle_usable most 0 st h
 
 -- whatever step is taken
-pub step_usable : (st : State) (x : Step) → length st.places ≡ 128 → usable st ≡ true → usable (decided st x).next ≡ true
+pub step_usable : (st : State) (x : Step) → length st.parts.places ≡ 128 → usable st ≡ true → usable (decided st x).next ≡ true
 unfolding decided
 step_usable st x z h = by (eqb (refusal st x) 0) refl
   where
@@ -170,35 +163,35 @@ fresh_runs T = by (eqb (judge T) 0) refl
     by true e = fresh_usable T (eqb-true (judge T) 0 e)
     by false e = none
 
-pub fresh_places : (T : Tables) → length (fresh_of T).state.places ≡ 128
+pub fresh_places : (T : Tables) → length (fresh_of T).state.parts.places ≡ 128
 unfolding fresh_of start_of
 fresh_places T = length-replicate 128 (place 0)
 
 -- ---- the places are as many as they were
 
-after_places : (st : State) (x : Todo) → (after st x).places ≡ st.places
+after_places : (st : State) (x : Todo) → (after st x).parts.places ≡ st.parts.places
 unfolding deliver_done carry_done close_done committed
 after_places st (todo.Close t s) = by (eqb (verdict st t s) 1)
   where
-    by : (b : Bool) → (with_closed (cond b (committed st t s) st) t s (verdict st t s)).places ≡ st.places
+    by : (b : Bool) → (with_closed (cond b (committed st t s) st) t s (verdict st t s)).parts.places ≡ st.parts.places
     by true = refl
     by false = refl
 after_places st (todo.Deliver s) = refl
 after_places st (todo.Carry t from to) = refl
 after_places st todo.Nothing = refl
 
-settle_places : (f n : ℕ) (st : State) → (settle_for f n st).next.places ≡ st.places
+settle_places : (f n : ℕ) (st : State) → (settle_for f n st).next.parts.places ≡ st.parts.places
 unfolding settle_for
 settle_places zero n st = refl
 settle_places (suc f) n st = by (todo st) refl (settle_places f (n + 1))
   where
-    by : (x : Todo) → todo st ≡ x → ((y : State) → (settle_for f (n + 1) y).next.places ≡ y.places) → (settle_for (suc f) n st).next.places ≡ st.places
+    by : (x : Todo) → todo st ≡ x → ((y : State) → (settle_for f (n + 1) y).next.parts.places ≡ y.parts.places) → (settle_for (suc f) n st).next.parts.places ≡ st.parts.places
     by (todo.Close t s) e more = rw (e, settle_for) (more _ ∙ after_places st (todo.Close t s))
     by (todo.Deliver s) e more = rw (e, settle_for) (more _ ∙ after_places st (todo.Deliver s))
     by (todo.Carry t from to) e more = rw (e, settle_for) (more _ ∙ after_places st (todo.Carry t from to))
     by todo.Nothing e more = rw (e, settle_for)
 
-done_places : (st : State) (x : Step) → length (done st x).next.places ≡ length st.places
+done_places : (st : State) (x : Step) → length (done st x).next.parts.places ≡ length st.parts.places
 unfolding done settle_done read_done submit_done
 done_places st (Read t i s) = refl
 done_places st (Submit t) = simp length-set
@@ -207,11 +200,11 @@ done_places st (Carry t from to) = rw (after_places st (todo.Carry t from to))
 done_places st (Close t s) = rw (after_places st (todo.Close t s))
 done_places st Settle = rw (settle_places most 0 st)
 
-pub step_places : (st : State) (x : Step) → length (decided st x).next.places ≡ length st.places
+pub step_places : (st : State) (x : Step) → length (decided st x).next.parts.places ≡ length st.parts.places
 unfolding decided
 step_places st x = by (eqb (refusal st x) 0)
   where
-    by : (b : Bool) → length (cond b (done st x) (refused st (refusal st x))).next.places ≡ length st.places
+    by : (b : Bool) → length (cond b (done st x) (refused st (refusal st x))).next.parts.places ≡ length st.parts.places
     by true = done_places st x
     by false = refl
 

@@ -1,14 +1,8 @@
 -- What a usable state has, and rows of keys.
 -- Assumes nothing.
-use Prim.Native.Nat.{ℕ, ◌≤◌, ◌<◌}
-use mathlib.Core.Path.{◌≡◌, refl, sym, subst}
-use mathlib.Core.Bool.{true, false, ◌&&◌, not}
-use mathlib.Core.List.{List}
-use mathlib.Core.Logic.{inl, inr}
-use native.Mathlib.Omega.{arith}
-use lib.Dec.{eqb, leb, ltb}
-use borrow.Author.Tests.{eq-eqb, leb-true, ltb-true, ltb-false, not-true}
-use Rattle.layout.specs.Cells.{place_in}
+use Rattle.std.proofs.Common.{ℕ, ◌≤◌, ◌<◌, ◌≡◌, refl, sym, subst, true, false, ◌&&◌, not, List, inl, inr, arith, eqb, leb, ltb, eq-eqb, leb-true, ltb-true, ltb-false}
+use Rattle.std.proofs.lemmas.Bool.{not-true}
+use Rattle.parts.specs.Cells.{place_in}
 use Rattle.bounded.proofs.Truth.{and-true, bool, clash, same}
 use Rattle.bounded.proofs.Laws.{any_put, any_none, all_get}
 use Rattle.tables.specs.Lists.{row_at, in_row, present, twice, read_count, write_count}
@@ -50,8 +44,8 @@ pub usable_has : (st : State) → usable st ≡ true → Usable st
 unfolding usable counts_fit txns_fit txn_fits places_fit
 usable_has st h =
     let T = st.tables in
-    let (c, r) = and-true (counts_fit T.keys T.groups T.sizes T.txns) (txns_fit T.keys T.reads T.nreads T.writes T.nwrites T.txns && places_fit st.places T.txns) h in
-    let (x, p) = and-true (txns_fit T.keys T.reads T.nreads T.writes T.nwrites T.txns) (places_fit st.places T.txns) r in
+    let (c, r) = and-true (counts_fit T.keys T.groups T.sizes T.txns) (txns_fit T.keys T.reads T.nreads T.writes T.nwrites T.txns && places_fit st.parts.places T.txns) h in
+    let (x, p) = and-true (txns_fit T.keys T.reads T.nreads T.writes T.nwrites T.txns) (places_fit st.parts.places T.txns) r in
     let (k, c1) = and-true (leb T.keys 64) (leb T.groups 8 && (leb (sites_in T.sizes T.groups) 16 && leb T.txns 128)) c in
     let (g, c2) = and-true (leb T.groups 8) (leb (sites_in T.sizes T.groups) 16 && leb T.txns 128) c1 in
     let (s, n) = and-true (leb (sites_in T.sizes T.groups) 16) (leb T.txns 128) c2 in
@@ -62,7 +56,7 @@ usable_has st h =
       txns = leb-true _ _ n;
       reads = λ t l. row_has T.keys T.reads t (read_count T t) (rows x t l).0;
       writes = λ t l. row_has T.keys T.writes t (write_count T t) (rows x t l).1;
-      place = λ t l. leb-true _ _ (all_get T.txns (λ t. leb (place_in st.places t) 128) p t l);
+      place = λ t l. leb-true _ _ (all_get T.txns (λ t. leb (place_in st.parts.places t) 128) p t l);
       short = λ t l. ((row_has T.keys T.reads t (read_count T t) (rows x t l).0).few, (row_has T.keys T.writes t (write_count T t) (rows x t l).1).few);
     }
   where

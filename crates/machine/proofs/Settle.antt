@@ -1,11 +1,6 @@
 -- What SETTLE takes next is accepted, and one turn of it.
 -- Assumes nothing.
-use Prim.Native.Nat.{ℕ, zero, suc, ◌+◌, ◌-◌, ◌<◌}
-use mathlib.Core.Path.{◌≡◌, refl}
-use mathlib.Core.Bool.{Bool, true, false, cond}
-use native.Mathlib.Numerals.{sub-one}
-use native.Mathlib.Nat.{not-suc-le-zero}
-use lib.Dec.{eqb}
+use Rattle.std.proofs.Common.{ℕ, zero, suc, ◌+◌, ◌-◌, ◌<◌, ◌≡◌, refl, Bool, true, false, cond, sub-one, not-suc-le-zero, eqb}
 use Rattle.machine.specs.Parts.{with_closed}
 use Rattle.machine.specs.Rules.{verdict}
 use Rattle.machine.specs.Usable.{usable}
@@ -15,8 +10,8 @@ use Rattle.machine.specs.Settle.{parts_of, todo, after, settle_for}
 use Rattle.machine.specs.Steps.{done, decided}
 use Rattle.machine.specs.declared.State.{State}
 use Rattle.search.proofs.Accepted.{Says, next_says}
-use Rattle.search.specs.declared.Todo.{Todo}
-use Rattle.search.specs.declared.Todo.TheVariants.{Close, Deliver, Carry, Nothing}
+use Rattle.search.specs.Search.{Todo}
+use Rattle.search.specs.Search.{Close, Deliver, Carry, Nothing}
 use Rattle.steps.specs.declared.Step.{Step}
 use Rattle.steps.specs.declared.Answer.TheVariants as answer
 use Rattle.machine.proofs.Laws.{usable_fits}

@@ -1,19 +1,23 @@
 -- What an accepted step answers and leaves.
-use Rattle.std.specs.Prelude.{ℕ, zero, suc, ◌+◌, ◌*◌, cond, List, eqb, get_or, set}
-use Rattle.tables.specs.Lists.{read_key, write_count, write_key, write_value}
-use Rattle.tables.specs.Sites.{holds}
+use Rattle.std.specs.Prelude.{ℕ, ◌+◌, cond, List, eqb, Ok}
+use Rattle.tables.specs.Lists.{read_key, write_count}
+use Rattle.effects.specs.Stored.{versions_in, values_in}
+use Rattle.steps.specs.Answers.{Answered}
 use Rattle.steps.specs.Kinds.{version, place}
 use Rattle.machine.specs.Parts.{version_at, value_at, cast_by, with_read, with_place, with_delivery, with_carried, with_closed, with_stores}
 use Rattle.machine.specs.Rules.{next_at, submitted, vote_of, verdict}
-use Rattle.tables.specs.declared.Tables.{Tables}
 use Rattle.machine.specs.declared.State.{State}
 use Rattle.steps.specs.declared.Version.{Version}
 use Rattle.machine.specs.declared.Stepped.{Stepped}
 use Rattle.steps.specs.declared.Answer.{Answer}
 use Rattle.steps.specs.declared.Answer.TheVariants as answer
 
+abbrev pub answering : Answered → State → Stepped
+answering a st = record { answer = a; next = st }
+
+-- an accepted step
 abbrev pub giving : Answer → State → Stepped
-giving a st = record { answer = a; next = st }
+giving a st = answering (Ok a) st
 
 -- records the version and value of t's i-th read key at s
 unfoldable pub read_done : State → ℕ → ℕ → ℕ → Stepped
@@ -37,20 +41,12 @@ deliver_done st s =
 unfoldable pub carry_done : State → ℕ → ℕ → ℕ → Stepped
 carry_done st t from to = giving (answer.Carried (cast_by st t from)) (with_carried st t from to)
 
--- l, a store of rows of 64, with f of the i-th write and what was there, for each of t's first n written keys that s holds
-unfoldable pub stored : {A : Type 0} → Tables → ℕ → ℕ → A → (ℕ → A → A) → List A → ℕ → List A
-stored T t s d f l zero = l
-stored T t s d f l (suc i) =
-    let k = write_key T t i in
-    let before = stored T t s d f l i in
-    cond (holds T s k) (set before (s * 64 + k) (f i (get_or l (s * 64 + k) d))) before
-
 -- a commit adds 1 to the version, and stores the value
 abbrev pub versions_after : State → ℕ → ℕ → ℕ → List Version
-versions_after st t s n = stored st.tables t s (version 0) (λ i v. version (v.0 + 1)) st.versions n
+versions_after st t s n = versions_in st.tables st.parts t s n
 
 abbrev pub values_after : State → ℕ → ℕ → ℕ → List ℕ
-values_after st t s n = stored st.tables t s 0 (λ i x. write_value st.tables t i) st.values n
+values_after st t s n = values_in st.tables st.parts t s n
 
 unfoldable pub committed : State → ℕ → ℕ → State
 committed st t s = with_stores st (versions_after st t s (write_count st.tables t)) (values_after st t s (write_count st.tables t))

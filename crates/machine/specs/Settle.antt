@@ -4,13 +4,11 @@ use Rattle.machine.specs.Effects.{giving, deliver_done, carry_done, close_done}
 use Rattle.machine.specs.declared.State.{State}
 use Rattle.machine.specs.declared.Stepped.{Stepped}
 use Rattle.steps.specs.declared.Answer.TheVariants as answer
-use Rattle.search.specs.Search.{Parts, parts, closes_first_in, first_closing_in, first_delivering_in, first_to_in, first_from_in, first_carried_in, todo_in}
-use Rattle.search.specs.declared.Todo.{Todo}
-use Rattle.search.specs.declared.Todo.TheVariants.{Close, Deliver, Carry, Nothing}
+use Rattle.search.specs.Search.{Seen, seen, Todo, Close, Deliver, Carry, Nothing, closes_first_in, first_closing_in, first_delivering_in, first_to_in, first_from_in, first_carried_in, todo_in}
 
 -- what SETTLE's steps look at
-abbrev pub parts_of : State → Parts
-parts_of st = parts st.versions st.places st.delivered st.closed st.cast st.carried
+abbrev pub parts_of : State → Seen
+parts_of st = seen st.parts
 
 -- the searches for it: CLOSE, DELIVER, CARRY
 abbrev pub closes_first : State → ℕ → ℕ
@@ -20,16 +18,16 @@ abbrev pub first_closing : State → ℕ
 first_closing st = first_closing_in st.tables (parts_of st)
 
 abbrev pub first_delivering : State → ℕ
-first_delivering st = first_delivering_in st.tables st.places st.delivered st.closed
+first_delivering st = first_delivering_in st.tables st.parts.places st.parts.delivered st.parts.closed
 
 abbrev pub first_to : State → ℕ → ℕ → ℕ
-first_to st t from = first_to_in st.tables st.cast st.carried t from
+first_to st t from = first_to_in st.tables st.parts.cast st.parts.carried t from
 
 abbrev pub first_from : State → ℕ → ℕ
-first_from st t = first_from_in st.tables st.cast st.carried t
+first_from st t = first_from_in st.tables st.parts.cast st.parts.carried t
 
 abbrev pub first_carried : State → ℕ
-first_carried st = first_carried_in st.tables st.places st.cast st.carried
+first_carried st = first_carried_in st.tables st.parts.places st.parts.cast st.parts.carried
 
 -- the first step accepted
 abbrev pub todo : State → Todo

@@ -1,17 +1,17 @@
 -- A step: 10 on an unusable state; else its refusal, with the state as it was; else what it does.
-use Rattle.std.specs.Prelude.{ℕ, cond, eqb}
+use Rattle.std.specs.Prelude.{ℕ, cond, eqb, Err}
+use Rattle.numbers.specs.Numbers.{step_refusal}
 use Rattle.machine.specs.Usable.{usable}
 use Rattle.machine.specs.Refusals.{refusal}
-use Rattle.machine.specs.Effects.{giving, read_done, submit_done, deliver_done, carry_done, close_done}
+use Rattle.machine.specs.Effects.{answering, read_done, submit_done, deliver_done, carry_done, close_done}
 use Rattle.machine.specs.Settle.{settle_done}
 use Rattle.machine.specs.declared.State.{State}
 use Rattle.machine.specs.declared.Stepped.{Stepped}
-use Rattle.steps.specs.declared.Answer.TheVariants as answer
 use Rattle.steps.specs.declared.Step.{Step}
 use Rattle.steps.specs.declared.Step.TheVariants.{Read, Submit, Deliver, Carry, Close, Settle}
 
 abbrev pub refused : State → ℕ → Stepped
-refused st n = giving (answer.Refused n) st
+refused st n = answering (Err (step_refusal n)) st
 
 -- what an accepted step does
 unfoldable pub done : State → Step → Stepped

@@ -8,4 +8,4 @@ unfoldable pub usable : State → Bool
 usable st =
     counts_fit st.tables.keys st.tables.groups st.tables.sizes st.tables.txns
     && (txns_fit st.tables.keys st.tables.reads st.tables.nreads st.tables.writes st.tables.nwrites st.tables.txns
-    && places_fit st.places st.tables.txns)
+    && places_fit st.parts.places st.tables.txns)

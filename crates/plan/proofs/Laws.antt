@@ -1,16 +1,9 @@
 -- From sets of keys to rows of keys: what two sets have in common, and whether one is in the other, is what the tables say of the rows.
 -- Assumes nothing.
-use Prim.Native.Nat.{ℕ, ◌^◌, ◌<◌}
-use mathlib.Core.Path.{◌≡◌, refl, sym, ap, fun_ext, ◌∙◌}
-use mathlib.Core.Bool.{true, ◌&&◌, ◌||◌}
-use mathlib.Core.Logic.{inl, inr}
-use mathlib.Core.List.{List}
-use borrow.Author.Tests.{eqb-true, eq-eqb}
-use Rattle.bounded.specs.Bounded.{any_below}
+use Rattle.std.proofs.Common.{ℕ, ◌<◌, ◌≡◌, refl, sym, ◌∙◌, true, ◌&&◌, ◌||◌, inl, inr, List, eqb-true, eq-eqb}
 use Rattle.bounded.proofs.Truth.{bool, and-true, and_put, or-true, or_left, or_right, iff_eq}
-use Rattle.bounded.proofs.Laws.{any_put, any_get, all_put, all_get}
+use Rattle.bounded.proofs.Laws.{any_put, any_get, any_same, all_put, all_get}
 use Rattle.keys.specs.Keys.{member, meeting, including}
-use Rattle.keys.proofs.Laws.{low}
 use Rattle.tables.specs.Lists.{row_at, in_row, meets}
 use Rattle.tables.specs.Concern.{some_in, all_in}
 
@@ -26,7 +19,7 @@ in-put a m h = all_put 64 _ (λ k l. elim (bool (member a k)) [ inl e ↦ rw e (
 
 -- ---- a set that has the first n keys of row t
 
-module _ (a : ℕ) (row : List ℕ) (t n : ℕ) (width : a < 2 ^ 64) (same : (k : ℕ) → member a k ≡ in_row row t n k) where
+module _ (a : ℕ) (row : List ℕ) (t n : ℕ) (low : (k : ℕ) → member a k ≡ true → k < 64) (same : (k : ℕ) → member a k ≡ in_row row t n k) where
   -- the i-th of the row is in it, and what is in it stands somewhere in the row
   has : (i : ℕ) → i < n → member a (row_at row t i) ≡ true
   unfolding in_row
@@ -36,9 +29,8 @@ module _ (a : ℕ) (row : List ℕ) (t n : ℕ) (width : a < 2 ^ 64) (same : (k 
   unfolding in_row
   from_row k h = let (i, l, q) = any_get n _ (sym (same k) ∙ h) in (i, l, eqb-true (row_at row t i) k q)
 
-  -- keys of a set are below its width
   under : (i : ℕ) → i < n → row_at row t i < 64
-  under i l = low 64 a (row_at row t i) width (has i l)
+  under i l = low (row_at row t i) (has i l)
 
   -- it meets m where one of the row is in m
   pub row_some : (m : ℕ) → meeting a m ≡ some_in row t n m
@@ -57,7 +49,7 @@ module _ (a : ℕ) (row : List ℕ) (t n : ℕ) (width : a < 2 ^ 64) (same : (k 
   -- it meets the set of another row where the rows meet
   pub rows_meet : (b : ℕ) (other : List ℕ) (u m : ℕ) → ((k : ℕ) → member b k ≡ in_row other u m k) → meeting a b ≡ meets row t n other u m
   unfolding some_in meets
-  rows_meet b other u m e = row_some b ∙ ap (λ f. any_below n (λ i. f (row_at row t i))) (fun_ext e)
+  rows_meet b other u m e = row_some b ∙ any_same n _ _ (λ i l. e (row_at row t i))
 
 -- ---- the union of two sets
 

@@ -1,4 +1,3 @@
 pub mod Laws
-pub mod Filled
+pub mod Made
 pub mod Questions
-pub mod Built

@@ -5,7 +5,7 @@ use Rattle.tables.specs.Lists.{conflict_in}
 use Rattle.tables.specs.Concern.{touches}
 use Rattle.tables.specs.Sites.{site_keys}
 use Rattle.tables.specs.declared.Tables.{Tables}
-use Rattle.layout.specs.Cells.{place_in, cell, nobody}
+use Rattle.parts.specs.Cells.{place_in, cell, nobody}
 use Rattle.steps.specs.declared.Place.{Place}
 
 -- the queue of s is what it has delivered and not closed

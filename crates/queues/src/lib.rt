@@ -1,179 +1,90 @@
 // The queue of a site: what waits to enter it, what is in it, who is at its head and who is blocked.
 #![tactic(auto)]
 
-ghost use Rattle.std.specs.Prelude.{◌≡◌, false, ◌&&◌, ◌||◌, cond, ◌+◌, ◌≤◌, ◌<◌, eqb, ltb};
+ghost use Rattle.std.specs.Prelude.{◌≡◌, false, ◌||◌, ◌≤◌, ◌<◌, eqb, ltb, IfSome, unwrap_or};
 ghost use Rattle.queues.specs.Queue.{queued_in, precedes, head_in, waits, submitted_in, next_of, blocked_of};
 ghost use Rattle.tables.specs.Concern.{concerns};
-ghost use Rattle.tables.specs.declared.Tables.{Tables};
-ghost use Rattle.plan.specs.Plan.{txns_of, Laid, Plan};
-ghost use Rattle.layout.specs.Layout.{the_places, the_delivered, the_closed};
-ghost use Rattle.layout.specs.Cells.{place_in, cell};
+ghost use Rattle.plan.specs.Planned.{Laid, Planned};
+ghost use Rattle.parts.specs.Cells.{place_in, cell, nobody};
 
-use tables::wide;
+use parts::Parts;
+use plan::Plan;
 
 // Whether t waits at s.
-pub fn is_waiting<'a>(
-    plan: &'a [u64; 3666],
-    numbers: &'a [u32; 4224],
-    flags: &'a [bool; 3072],
-    t: usize,
-    s: usize,
-) -> bool
+pub fn is_waiting(plan: &Plan, w: &Parts, t: usize, s: usize) -> bool
     requires { (t < 128) × (s < 16) }
-    ensures { (T : Tables) → Plan T plan.now → t < T.txns → result ≡ waits (place_in (the_places numbers.now) t) (cell false (the_delivered flags.now) t s) (concerns T t s) }
+    ensures { Planned plan.now → t < plan.now.tables.txns → result ≡ waits (place_in w.now.places t) (cell false w.now.delivered t s) (concerns plan.now.tables t s) }
 {
-    if numbers[4096 + t] == 0 {
-        return false;
-    }
-    if flags[1024 + t * 16 + s] {
-        return false;
-    }
-    plan::is_concerned(plan, t, s)
+    w.places[t].0 != 0 && !w.delivered[t * 16 + s] && plan.is_concerned(t, s)
 }
 
-// A transaction found, 128 for none, with its place.
-#[derive(Clone, Copy)]
-pub struct Found {
-    pub t: u8,
-    pub place: u32,
+// Whether t comes before the one found, if any.
+fn is_sooner(w: &Parts, t: u8, found: Option<u8>) -> bool
+    requires { (t < 128) × IfSome found (λ u. u < 128) }
+    ensures { result ≡ (eqb (unwrap_or found nobody) nobody || ltb (place_in w.now.places t) (place_in w.now.places (unwrap_or found nobody))) }
+{
+    match found {
+        Some(u) => w.places[usize::from(t)].0 < w.places[usize::from(u)].0,
+        None => true,
+    }
 }
 
-// t, at place p, where it passes and comes before what was found; else that.
-fn sooner(found: Found, passes: bool, t: u8, p: u32) -> Found
-    ensures t_value { result.t ≡ cond (passes && (eqb found.t 128 || ltb p found.place)) t found.t }
-    ensures place_value { result.place ≡ cond (passes && (eqb found.t 128 || ltb p found.place)) p found.place }
+// The next to deliver at s.
+pub fn next_at(plan: &Plan, w: &Parts, s: usize) -> Option<u8>
+    requires laid { Laid plan.now }
+    requires s_bound { s < 16 }
+    ensures value { Planned plan.now → unwrap_or result nobody ≡ next_of plan.now.tables w.now.places w.now.delivered s }
+    ensures low { IfSome result (λ t. t < plan.now.tables.txns) }
 {
-    if passes {
-        if found.t == 128 {
-            return Found { t, place: p };
-        }
-        if p < found.place {
-            return Found { t, place: p };
+    let mut found = None;
+    for t in 0..plan.tables.txns {
+        if is_waiting(plan, w, usize::from(t), s) && is_sooner(w, t, found) {
+            found = Some(t);
         }
     }
     found
 }
 
-// The next to deliver at s; 128 for none.
-pub fn next_at<'a>(
-    plan: &'a [u64; 3666],
-    numbers: &'a [u32; 4224],
-    flags: &'a [bool; 3072],
-    s: usize,
-) -> u8
-    requires laid { Laid plan.now }
-    requires s_bound { s < 16 }
-    ensures value { (T : Tables) → Plan T plan.now → result ≡ next_of T (the_places numbers.now) (the_delivered flags.now) s }
-    ensures upper_bound { result ≤ 128 }
-{
-    let n = plan::txns(plan);
-    let mut found = Found { t: 128, place: 0 };
-    let mut t: u8 = 0;
-    while t < n {
-        let at = wide(t);
-        let passes = is_waiting(plan, numbers, flags, at, s);
-        found = sooner(found, passes, t, numbers[4096 + at]);
-        t += 1;
-    }
-    found.t
-}
-
 // Whether t is in the queue of s.
-pub fn is_queued<'a>(flags: &'a [bool; 3072], marks: &'a [u8; 4096], t: usize, s: usize) -> bool
+pub fn is_queued(w: &Parts, t: usize, s: usize) -> bool
     requires { (t < 128) × (s < 16) }
-    ensures { result ≡ queued_in (the_delivered flags.now) (the_closed marks.now) s t }
+    ensures { result ≡ queued_in w.now.delivered w.now.closed s t }
 {
-    if flags[1024 + t * 16 + s] {
-        return marks[t * 16 + s] == 0;
-    }
-    false
+    w.delivered[t * 16 + s] && w.closed[t * 16 + s] == 0
 }
 
 // Whether t conflicts with one in the queue of s.
-pub fn is_blocked<'a>(
-    plan: &'a [u64; 3666],
-    flags: &'a [bool; 3072],
-    marks: &'a [u8; 4096],
-    t: usize,
-    s: usize,
-) -> bool
+pub fn is_blocked(plan: &Plan, w: &Parts, t: usize, s: usize) -> bool
     requires laid { Laid plan.now }
     requires t_bound { (t < 128) × (s < 16) }
-    ensures { (T : Tables) → Plan T plan.now → t < T.txns → result ≡ blocked_of T (the_delivered flags.now) (the_closed marks.now) t s }
+    ensures { Planned plan.now → t < plan.now.tables.txns → result ≡ blocked_of plan.now.tables w.now.delivered w.now.closed t s }
 {
-    let mut u = wide(plan::txns(plan));
-    while 0 < u {
-        u -= 1;
-        if is_queued(flags, marks, u, s) {
-            if plan::is_conflict(plan, t, u) {
-                return true;
-            }
-        }
-    }
-    false
+    (0..usize::from(plan.tables.txns)).any(|u| is_queued(w, u, s) && plan.is_conflict(t, u))
 }
 
 // Whether u, at place q, comes before t, at place p.
 pub fn is_before(u: usize, q: u32, t: usize, p: u32) -> bool
     ensures { result ≡ precedes u q t p }
 {
-    if q < p {
-        return true;
-    }
-    if q == p {
-        return u < t;
-    }
-    false
+    (q, u) < (p, t)
 }
 
 // Whether none in the queue of s comes before t.
-pub fn is_at_head<'a>(
-    plan: &'a [u64; 3666],
-    numbers: &'a [u32; 4224],
-    flags: &'a [bool; 3072],
-    marks: &'a [u8; 4096],
-    t: usize,
-    s: usize,
-) -> bool
+pub fn is_at_head(plan: &Plan, w: &Parts, t: usize, s: usize) -> bool
     requires laid { Laid plan.now }
     requires t_bound { (t < 128) × (s < 16) }
-    ensures { result ≡ head_in (the_places numbers.now) (the_delivered flags.now) (the_closed marks.now) (txns_of plan.now) t s }
+    ensures { result ≡ head_in w.now.places w.now.delivered w.now.closed plan.now.tables.txns t s }
 {
-    let p = numbers[4096 + t];
-    let mut u = wide(plan::txns(plan));
-    while 0 < u {
-        u -= 1;
-        if is_queued(flags, marks, u, s) {
-            if is_before(u, numbers[4096 + u], t, p) {
-                return false;
-            }
-        }
-    }
-    true
+    let p = w.places[t].0;
+    !(0..usize::from(plan.tables.txns)).any(|u| is_queued(w, u, s)
+        && is_before(u, w.places[u].0, t, p))
 }
 
 // How many transactions have a place.
-pub fn submitted<'a>(plan: &'a [u64; 3666], numbers: &'a [u32; 4224]) -> u32
+pub fn submitted(plan: &Plan, w: &Parts) -> u32
     requires { Laid plan.now }
-    ensures { (result ≡ submitted_in (the_places numbers.now) (txns_of plan.now)) × (result ≤ 128) }
+    ensures { (result ≡ submitted_in w.now.places plan.now.tables.txns) × (result ≤ 128) }
 {
-    let n = plan::txns(plan);
-    let mut count: u32 = 0;
-    let mut t: u8 = 0;
-    while t < n {
-        count = count_one(count, numbers[4096 + wide(t)]);
-        t += 1;
-    }
-    count
-}
-
-// One more where there is a place.
-fn count_one(count: u32, p: u32) -> u32
-    requires { count < 4294967295 }
-    ensures { result ≡ count + cond (ltb 0 p) 1 0 }
-{
-    if 0 < p {
-        return count + 1;
-    }
-    count
+    let n = usize::from(plan.tables.txns);
+    w.places[..n].iter().filter(|p| p.0 != 0).count() as u32
 }

@@ -1,20 +1,15 @@
 -- Numbers of any width; rows; a tag past the table has no rule; where a record lies.
 -- Assumes nothing.
-use Prim.Native.Nat.{ℕ, ◌+◌, ◌*◌, ◌^◌, ◌<◌, ◌≤◌}
-use mathlib.Core.Bool.{Bool, true, false, cond}
-use mathlib.Core.List.{List}
-use mathlib.Core.Path.{◌≡◌, refl}
-use native.Mathlib.Omega.{arith}
-use native.Mathlib.Nat.{mul-suc, mul-le-mul_left, add-zero, zero-add}
-use native.Mathlib.Numerals.{add-one}
-use lib.Dec.{eqb, leb}
-use lib.ListN.{length, get_or, set}
+use Rattle.std.proofs.Common.{◌≡◌, ℕ, ◌+◌, ◌*◌, ◌^◌, ◌<◌, ◌≤◌, Bool, true, false, cond, List, length, get_or, set, eqb, leb, refl, arith, add-zero, zero-add, add-one, Ok, Err}
+use native.Mathlib.Nat.{mul-suc, mul-le-mul_left}
 use lib.Pow.{pow-add, pow_mono}
 use borrow.Author.Tests.{ne_eqb, leb-true}
-use Rattle.records.specs.Number.{number, row}
-use Rattle.records.specs.Rule.{rule_of, none}
+use Rattle.records.specs.Number.{number, row_of}
+use Rattle.records.specs.Rule.{rule_of}
 use Rattle.records.specs.Record.{record_at, length_at}
-use Rattle.records.specs.declared.Record.TheVariants.{Whole, Short, Cut}
+use Rattle.records.specs.declared.Rule.TheVariants.{NoTag}
+use Rattle.records.specs.declared.Record.{Record}
+use Rattle.records.specs.declared.Broken.TheVariants.{Header, Body}
 
 pub number_up : (s : List ℕ) (at i : ℕ) → number s at (i + 1) ≡ number s at i * 256 + get_or s (at + i) 0
 unfolding number
@@ -36,18 +31,16 @@ unfolding number
 byte s at = rw (add-zero, zero-add)
 
 -- a number more in a row, of any width and step
-pub row_up : (w step : ℕ) (s : List ℕ) (at base : ℕ) (l : List ℕ) (i : ℕ) → row w step s at base l (i + 1) ≡ set (row w step s at base l i) (base + i) (number s (at + step * i) w)
-unfolding row
-row_up w step s at base l i = rw add-one
+pub row_up : {A : Type 0} (f : ℕ → A) (w step : ℕ) (s : List ℕ) (at base : ℕ) (l : List A) (i : ℕ)
+    → row_of f w step s at base l (i + 1) ≡ set (row_of f w step s at base l i) (base + i) (f (number s (at + step * i) w))
+unfolding row_of
+row_up f w step s at base l i = rw add-one
 
 -- the places of a row
 pub step_in : (step i n : ℕ) → i < n → step * i + step ≤ step * n
 step_in step i n h = rw (mul-suc step i) at (mul-le-mul_left step h)
 
-pub step_more : (at step i : ℕ) → at + step * i + step ≡ at + step * (i + 1)
-step_more at step i = let e : step * (i + 1) ≡ step * i + step = rw add-one (mul-suc step i) in omega arith
-
-pub rule_past : (tag : ℕ) → 32 ≤ tag → rule_of tag ≡ none
+pub rule_past : (tag : ℕ) → 32 ≤ tag → rule_of tag ≡ NoTag
 unfolding rule_of
 rule_past tag h =
     simp (
@@ -67,26 +60,20 @@ rule_past tag h =
     other k l = ne_eqb tag k (λ e. omega arith)
 
 -- where the parts of a whole record lie
-pub record Lies (s : List ℕ) (at start len next : ℕ) : Type 0 where
-  pub starts : start ≡ at + 3
-  pub ends : next ≡ start + len
-  pub within : next ≤ length s
+pub record Lies (s : List ℕ) (at : ℕ) (r : Record) : Type 0 where
+  pub starts : r.start ≡ at + 3
+  pub ends : r.next ≡ r.start + r.len
+  pub within : r.next ≤ length s
 
--- two variants differ
-pub apart : ◌≡◌ {A = ℕ} 0 1 → ⊥
-apart never = omega arith
-
-pub whole_lies : {s : List ℕ} {at tag start len next : ℕ} → record_at s at ≡ Whole tag start len next → Lies s at start len next
+pub whole_lies : {s : List ℕ} {at : ℕ} {r : Record} → record_at s at ≡ Ok r → Lies s at r
 unfolding record_at
-whole_lies {s} {at} {tag} {start} {len} {next} = by (leb (at + 3) (length s)) (leb (at + 3 + length_at s at) (length s)) refl
+whole_lies {s} {at} {r} = by (leb (at + 3) (length s)) (leb (at + 3 + length_at s at) (length s)) refl
   where
     by : (p q : Bool) → leb (at + 3 + length_at s at) (length s) ≡ q →
-        cond p (cond q (Whole (get_or s at 0) (at + 3) (length_at s at) (at + 3 + length_at s at)) (Short (get_or s at 0))) Cut ≡ Whole tag start len next →
-        Lies s at start len next
+        cond p (cond q (Ok (record { tag = get_or s at 0; start = at + 3; len = length_at s at; next = at + 3 + length_at s at })) (Err (Body (get_or s at 0)))) (Err Header) ≡ Ok r →
+        Lies s at r
     by true true e h =
-        let b : at + 3 ≡ start = cc in
-        let n : length_at s at ≡ len = cc in
-        let z : at + 3 + length_at s at ≡ next = cc in
-        record { starts = omega arith; ends = omega arith; within = omega (arith, leb-true (at + 3 + length_at s at) (length s) e) }
-    by true false e h = absurd (apart (cc))
-    by false q e h = absurd (apart (cc))
+        let z : record { tag = get_or s at 0; start = at + 3; len = length_at s at; next = at + 3 + length_at s at } ≡ r = cc in
+        rw (← z) (record { starts = refl; ends = refl; within = leb-true (at + 3 + length_at s at) (length s) e })
+    by true false e h = cc
+    by false q e h = cc

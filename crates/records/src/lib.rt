@@ -1,38 +1,30 @@
 // Numbers and rows of them; records of a tag, a two-byte length and a body: their reader, the length rule of each tag, the first judgement.
 #![tactic(auto)]
 
-ghost use Rattle.std.specs.Prelude.{◌≡◌, ◌+◌, ◌*◌, ◌^◌, ◌<◌, ◌≤◌, length, get_or};
-ghost use Rattle.records.specs.Number.{number, row};
-ghost use Rattle.records.specs.Record.{record_at};
+ghost use Rattle.std.specs.Prelude.{ℕ, ◌≡◌, ◌+◌, ◌*◌, ◌^◌, ◌<◌, ◌≤◌, length, get_or, Ok, Err};
+ghost use Rattle.records.specs.Number.{number, row_of};
+ghost use Rattle.records.specs.Record.{record_at, tag_of};
 ghost use Rattle.records.specs.Rule.{rule_of, values_fit, pairs_fit, fits};
 ghost use Rattle.records.specs.Judge.{judge_by};
 
-// What stands at a position.
-#[derive(Clone, Copy)]
-pub enum Record {
-    // A whole record: its body is the len bytes from start; next is past it.
-    Whole {
-        tag: u8,
-        start: usize,
-        len: usize,
-        next: usize,
-    },
-    // A header whose body runs past the end.
-    Short(u8),
-    // Fewer than 3 bytes.
-    Cut,
+use numbers::FileRefusal;
+
+// A whole record: its body is the len bytes from start; next is past it.
+#[derive(Clone, Copy, Debug, PartialEq, Eq)]
+pub struct Record {
+    pub tag: u8,
+    pub start: usize,
+    pub len: usize,
+    pub next: usize,
 }
 
-// A record that may stand where it does and is as long as it must be, or the refusal.
-#[derive(Clone, Copy)]
-pub enum Judged {
-    Good {
-        tag: u8,
-        start: usize,
-        len: usize,
-        next: usize,
-    },
-    Bad(u8),
+// Where no whole record stands.
+#[derive(Clone, Copy, Debug, PartialEq, Eq)]
+pub enum Broken {
+    // Fewer than 3 bytes.
+    Header,
+    // A header with this tag whose body runs past the end.
+    Body(u8),
 }
 
 // The byte at i, 0 past the end.
@@ -48,164 +40,191 @@ pub fn number_at(s: &[u8], at: usize, n: usize) -> u64
     ensures { (result ≡ number s.now at n) × (result < 2 ^ (8 * n)) }
 {
     let mut v: u64 = 0;
-    let mut i: usize = 0;
-    while i < n {
-        let b = s[at + i] as u64;
-        v = v * 256 + b;
-        i += 1;
+    for i in 0..n {
+        v = v * 256 + u64::from(s[at + i]);
     }
     v
 }
 
-// Numbers of 2, 4 and 8 bytes.
-pub fn u16_at(s: &[u8], at: usize) -> usize
-    requires { at + 2 ≤ length s.now }
-    ensures { (result ≡ number s.now at 2) × (result < 65536) }
-{
-    number_at(s, at, 2) as usize
+// A number of a width of its own.
+pub trait Field: Copy {
+    ghost width: { ℕ };
+
+    ghost of: { ℕ → Self };
+
+    // The number that stands at a position.
+    fn read(s: &[u8], at: usize) -> Self
+        requires { at + width ≤ length s.now }
+        ensures { result ≡ of (number s.now at width) };
 }
 
-pub fn u32_at(s: &[u8], at: usize) -> u32
-    requires { at + 4 ≤ length s.now }
-    ensures { result ≡ number s.now at 4 }
-{
-    number_at(s, at, 4) as u32
-}
+impl Field for u8 {
+    ghost width = { 1 };
 
-pub fn u64_at(s: &[u8], at: usize) -> u64
-    requires { at + 8 ≤ length s.now }
-    ensures { result ≡ number s.now at 8 }
-{
-    number_at(s, at, 8)
-}
+    ghost of = { λ n. n };
 
-// l with n first values of four bytes, from at on.
-pub fn first_values(l: [u32; 64], s: &[u8], at: usize, n: usize) -> [u32; 64]
-    requires { (n ≤ 64) × (at + 4 * n ≤ length s.now) }
-    ensures { result ≡ row 4 4 s.now at 0 l n }
-{
-    let mut next = l;
-    let mut i: usize = 0;
-    while i < n {
-        next[i] = u32_at(s, at + 4 * i);
-        i += 1;
+    fn read(s: &[u8], at: usize) -> u8 {
+        s[at]
     }
-    next
 }
 
-// l with n bytes from its place base on, one every step bytes from at on.
-pub fn key_row(l: [u8; 1024], s: &[u8], at: usize, step: usize, base: usize, n: usize) -> [u8; 1024]
-    requires { (base + n ≤ 1024) × ((0 < step) × (at + step * n ≤ length s.now)) }
-    ensures { result ≡ row 1 step s.now at base l n }
-{
-    let mut next = l;
-    let mut i: usize = 0;
-    let mut from = at;
-    while i < n {
-        next[base + i] = s[from];
-        from += step;
-        i += 1;
+impl Field for u16 {
+    ghost width = { 2 };
+
+    ghost of = { λ n. n };
+
+    fn read(s: &[u8], at: usize) -> u16 {
+        number_at(s, at, 2) as u16
     }
-    next
 }
 
-// l with n values of four bytes from its place base on, one every five bytes from at on.
-pub fn value_row(l: [u32; 1024], s: &[u8], at: usize, base: usize, n: usize) -> [u32; 1024]
-    requires { (base + n ≤ 1024) × (at + 5 * n ≤ length s.now + 1) }
-    ensures { result ≡ row 4 5 s.now at base l n }
-{
-    let mut next = l;
-    let mut i: usize = 0;
-    while i < n {
-        next[base + i] = u32_at(s, at + 5 * i);
-        i += 1;
+impl Field for u32 {
+    ghost width = { 4 };
+
+    ghost of = { λ n. n };
+
+    fn read(s: &[u8], at: usize) -> u32 {
+        number_at(s, at, 4) as u32
     }
-    next
+}
+
+impl Field for u64 {
+    ghost width = { 8 };
+
+    ghost of = { λ n. n };
+
+    fn read(s: &[u8], at: usize) -> u64 {
+        number_at(s, at, 8)
+    }
+}
+
+// Puts n numbers into l from its place base on, one every step bytes from at on.
+pub fn put_row<T: Field>(l: &mut [T], base: usize, n: usize, s: &[u8], at: usize, step: usize)
+    requires { (base + n ≤ length l.old) × (at + step * n + T.width ≤ length s.now + step) }
+    ensures { l.new ≡ row_of T.of T.width step s.now at base l.old n }
+{
+    for i in 0..n {
+        l[base + i] = T::read(s, at + step * i);
+    }
 }
 
 // What stands at a position; a header cut comes before a body cut.
-fn record_at(s: &[u8], at: usize) -> Record
+fn record_at(s: &[u8], at: usize) -> Result<Record, Broken>
     ensures { result ≡ record_at s.now at }
 {
-    if s.len() < 3 {
-        return Record::Cut;
-    }
-    if s.len() - 3 < at {
-        return Record::Cut;
+    if s.len() < 3 || s.len() - 3 < at {
+        return Err(Broken::Header);
     }
     let tag = s[at];
-    let len = u16_at(s, at + 1);
+    let len = usize::from(u16::read(s, at + 1));
     let start = at + 3;
-    if len <= s.len() - start {
-        Record::Whole {
-            tag,
-            start,
-            len,
-            next: start + len,
-        }
-    } else {
-        Record::Short(tag)
+    if s.len() - start < len {
+        return Err(Broken::Body(tag));
     }
+    Ok(Record {
+        tag,
+        start,
+        len,
+        next: start + len,
+    })
 }
 
-// The reader of records: the file and its own position.
+// The reader of records: the file and its own position, in a struct as document 01 asks.
 #[derive(Clone, Copy)]
 pub struct Reader<'a> {
     pub src: &'a [u8],
     pub at: usize,
 }
 
-// The reader of a file at a position.
-pub fn reader_at<'a>(src: &'a [u8], at: usize) -> Reader<'a>
-    ensures { (result.src ≡ src.entry) × (result.at ≡ at) }
-{
-    Reader { src, at }
-}
+impl<'a> Reader<'a> {
+    // The reader of a file at a position.
+    pub fn new(src: &'a [u8], at: usize) -> Reader<'a>
+        ensures { (result.src ≡ src.entry) × (result.at ≡ at) }
+    {
+        Reader { src, at }
+    }
 
-// What stands at the reader's own position.
-pub fn next_record<'a>(r: Reader<'a>) -> Record
-    ensures { result ≡ record_at r.entry.src.now r.entry.at }
-{
-    record_at(r.src, r.at)
+    // What stands at the reader's own position.
+    pub fn record(self) -> Result<Record, Broken>
+        ensures { result ≡ record_at self.entry.src.now self.entry.at }
+    {
+        record_at(self.src, self.at)
+    }
 }
 
 // What a reader of s at a position finds there.
-pub fn record_from(s: &[u8], at: usize) -> Record
+pub fn record_from(s: &[u8], at: usize) -> Result<Record, Broken>
     ensures { result ≡ record_at s.now at }
 {
-    next_record(reader_at(s, at))
+    Reader::new(s, at).record()
 }
 
-// The rules that are no exact length: first values of keys; key bytes and pairs; no such tag.
-const VALUES: u16 = 0xFFFD;
+// How long a body must be.
+#[derive(Clone, Copy, Debug, PartialEq, Eq)]
+enum Rule {
+    // No such tag.
+    NoTag,
+    Exact(u16),
+    // First values of keys.
+    Values,
+    // Key bytes and pairs.
+    Pairs,
+}
 
-const PAIRS: u16 = 0xFFFE;
+use Rule::{Exact, NoTag, Pairs, Values};
 
-const NONE: u16 = 0xFFFF;
-
-// The length rule of each tag.
-const RULES: [u16; 32] = [
-    NONE, VALUES, 9, PAIRS, NONE, NONE, NONE, NONE, NONE, NONE, NONE, NONE, NONE, NONE, NONE, 0, 3,
-    1, 1, 3, 2, 0, NONE, NONE, NONE, NONE, NONE, NONE, NONE, NONE, NONE, NONE,
+// The length rule of each tag, in a constant table indexed by it as document 01 asks.
+const RULES: [Rule; 32] = [
+    NoTag,
+    Values,
+    Exact(9),
+    Pairs,
+    NoTag,
+    NoTag,
+    NoTag,
+    NoTag,
+    NoTag,
+    NoTag,
+    NoTag,
+    NoTag,
+    NoTag,
+    NoTag,
+    NoTag,
+    Exact(0),
+    Exact(3),
+    Exact(1),
+    Exact(1),
+    Exact(3),
+    Exact(2),
+    Exact(0),
+    NoTag,
+    NoTag,
+    NoTag,
+    NoTag,
+    NoTag,
+    NoTag,
+    NoTag,
+    NoTag,
+    NoTag,
+    NoTag,
 ];
 
 // The length rule of a tag.
-fn rule(tag: u8) -> u16
+fn length_rule(tag: u8) -> Rule
     ensures { result ≡ rule_of tag }
 {
-    if tag < 32 { RULES[tag as usize] } else { NONE }
+    if tag < 32 {
+        RULES[usize::from(tag)]
+    } else {
+        NoTag
+    }
 }
 
 // Whether a body of first values may be this long.
 fn values_fit(len: usize) -> bool
     ensures { result ≡ values_fit len }
 {
-    if 4 <= len {
-        if len <= 256 {
-            return len % 4 == 0;
-        }
-    }
-    false
+    4 <= len && len <= 256 && len % 4 == 0
 }
 
 // Whether a body of r key bytes and w pairs is as long as its counts say. Past the end both counts are 0.
@@ -218,11 +237,11 @@ fn pairs_fit(s: &[u8], start: usize, len: usize) -> bool
     if s.len() <= start {
         return len == 2;
     }
-    let r = s[start] as usize;
+    let r = usize::from(s[start]);
     if len < 2 + r {
         return false;
     }
-    let w = byte_at(s, start + 1 + r) as usize;
+    let w = usize::from(byte_at(s, start + 1 + r));
     len == 2 + r + 5 * w
 }
 
@@ -230,64 +249,40 @@ fn pairs_fit(s: &[u8], start: usize, len: usize) -> bool
 pub fn fits(s: &[u8], tag: u8, start: usize, len: usize) -> bool
     ensures { result ≡ fits s.now tag start len }
 {
-    let rule = rule(tag);
-    if rule == NONE {
-        return false;
+    match length_rule(tag) {
+        NoTag => false,
+        Exact(n) => len == usize::from(n),
+        Values => values_fit(len),
+        Pairs => pairs_fit(s, start, len),
     }
-    if rule == VALUES {
-        return values_fit(len);
-    }
-    if rule == PAIRS {
-        return pairs_fit(s, start, len);
-    }
-    len == rule as usize
 }
 
 // The tag of what stands at a position, 0 where the header is cut.
-pub fn tag_of(found: Record) -> u8
-    ensures { result ≡ elim found [ Record.Whole tag start len next ↦ tag | Record.Short tag ↦ tag | Record.Cut ↦ 0 ] }
+pub fn tag_of(found: Result<Record, Broken>) -> u8
+    ensures { result ≡ tag_of found }
 {
     match found {
-        Record::Whole {
-            tag,
-            start: _,
-            len: _,
-            next: _,
-        } => tag,
-        Record::Short(tag) => tag,
-        Record::Cut => 0,
+        Ok(record) => record.tag,
+        Err(Broken::Body(tag)) => tag,
+        Err(Broken::Header) => 0,
     }
 }
 
-// The first judgement of what stands at a position, where ok says whether its tag may stand there.
-pub fn judge(s: &[u8], found: Record, ok: bool) -> Judged
+// The first judgement of what stands at a position, where ok says whether its tag may stand there; let .. else as document 01 asks.
+pub fn judge(s: &[u8], found: Result<Record, Broken>, ok: bool) -> Result<Record, FileRefusal>
     ensures { result ≡ judge_by (λ tag. ok) s.now found }
 {
-    let Record::Whole {
-        tag,
-        start,
-        len,
-        next,
-    } = found
-    else {
-        if ok {
-            return Judged::Bad(2);
+    let Ok(record) = found else {
+        if ok || found == Err(Broken::Header) {
+            return Err(FileRefusal::Cut);
         }
-        if let Record::Cut = found {
-            return Judged::Bad(2);
-        }
-        return Judged::Bad(3);
+        return Err(FileRefusal::Misplaced);
     };
-    if ok {
-        if fits(s, tag, start, len) {
-            return Judged::Good {
-                tag,
-                start,
-                len,
-                next,
-            };
-        }
-        return Judged::Bad(4);
+    if !ok {
+        return Err(FileRefusal::Misplaced);
     }
-    Judged::Bad(3)
+    if !fits(s, record.tag, record.start, record.len) {
+        return Err(FileRefusal::Length);
+    }
+    Ok(record)
 }

@@ -1,13 +1,7 @@
 -- What an accepted READ, SUBMIT, DELIVER and CARRY says.
 -- Assumes nothing.
-use Prim.Native.Nat.{ℕ, ◌≤◌, ◌<◌}
-use mathlib.Core.Path.{◌≡◌}
-use mathlib.Core.Bool.{Bool, true, false, ◌||◌, not}
-use mathlib.Core.List.{List}
-use mathlib.Core.Logic.{inl, inr}
-use native.Mathlib.Omega.{arith}
-use lib.Dec.{eqb, leb}
-use borrow.Author.Tests.{eqb-false, leb-false, not-false}
+use Rattle.std.proofs.Common.{ℕ, ◌≤◌, ◌<◌, ◌≡◌, Bool, true, false, ◌||◌, not, List, inl, inr, arith, eqb, leb, leb-false}
+use Rattle.std.proofs.lemmas.Bool.{eqb-false, not-false}
 use Rattle.bounded.proofs.Laws.{first-is}
 use Rattle.bounded.proofs.Truth.{or-false, passed}
 use Rattle.keys.specs.Keys.{member}
@@ -16,7 +10,7 @@ use Rattle.tables.specs.Sites.{site_count, holds}
 use Rattle.tables.specs.Concern.{concerns, local}
 use Rattle.tables.specs.Fits.{Fits}
 use Rattle.tables.specs.declared.Tables.{Tables}
-use Rattle.layout.specs.Cells.{place_in, cell, nobody}
+use Rattle.parts.specs.Cells.{place_in, cell, nobody}
 use Rattle.queues.specs.Queue.{waits, next_in, next_of}
 use Rattle.rules.specs.Votes.{holds_vote}
 use Rattle.steps.specs.declared.Place.{Place}

@@ -1,7 +1,7 @@
 -- The number that refuses a step, 0 where it is accepted: the tests in the listed order, asked of the tables and of the lists that they look at.
 use Rattle.std.specs.Prelude.{ℕ, Bool, false, ◌&&◌, ◌||◌, not, cond, List, eqb, leb, ltb}
 use Rattle.queues.specs.Queue.{head_in, next_of, blocked_of}
-use Rattle.layout.specs.Cells.{place_in, cell, nobody, recorded_in}
+use Rattle.parts.specs.Cells.{place_in, cell, nobody, recorded_in}
 use Rattle.bounded.specs.Bounded.{all_below}
 use Rattle.tables.specs.Lists.{read_count, read_key}
 use Rattle.tables.specs.Sites.{site_count, holds}

@@ -1,6 +1,6 @@
 -- The questions asked of the tables T.
 use Rattle.std.specs.Prelude.{ℕ, Bool, cond, List}
-use Rattle.layout.specs.Cells.{cell}
+use Rattle.parts.specs.Cells.{cell}
 use Rattle.tables.specs.Lists.{read_count, write_count}
 use Rattle.tables.specs.Sites.{site_count, site_keys}
 use Rattle.tables.specs.Concern.{votes}

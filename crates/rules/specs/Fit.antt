@@ -1,6 +1,6 @@
 -- The counts, lists and places that a step can run on.
 use Rattle.std.specs.Prelude.{ℕ, Bool, ◌&&◌, not, List, leb, get_or}
-use Rattle.layout.specs.Cells.{place_in}
+use Rattle.parts.specs.Cells.{place_in}
 use Rattle.bounded.specs.Bounded.{all_below}
 use Rattle.tables.specs.Lists.{present, twice}
 use Rattle.tables.specs.Sites.{sites_in}

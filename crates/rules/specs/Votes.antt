@@ -1,6 +1,6 @@
 -- Certification at a site, the votes that a site holds, and the verdict.
 use Rattle.std.specs.Prelude.{ℕ, ◌+◌, ◌*◌, Bool, ◌&&◌, ◌||◌, not, cond, List, eqb, ltb, get_or}
-use Rattle.layout.specs.Cells.{cell, version_in, recorded_in}
+use Rattle.parts.specs.Cells.{cell, version_in, recorded_in}
 use Rattle.bounded.specs.Bounded.{any_below, all_below}
 use Rattle.keys.specs.Keys.{member}
 use Rattle.tables.specs.Lists.{row_at}

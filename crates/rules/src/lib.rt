@@ -1,102 +1,67 @@
-// Votes, verdicts and room for a commit, asked of the plan of the tables and of lent parts of a state; and the states that a step can run on.
+// Votes, verdicts and room for a commit, asked of the plan of the tables and of the parts of a state; and the states that a step can run on.
 #![tactic(auto)]
 
-ghost use Rattle.std.specs.Prelude.{◌≡◌, false, ◌&&◌, ◌||◌, not, cond, ℕ, ◌+◌, ◌*◌, ◌≤◌, ◌<◌, eqb, get_or, set, length};
+ghost use Rattle.std.specs.Prelude.{◌≡◌, ◌&&◌, cond, ℕ, ◌+◌, ◌*◌, ◌≤◌, ◌<◌, eqb, get_or, set};
 ghost use Rattle.bounded.specs.Bounded.{all_below};
 ghost use Rattle.keys.specs.Keys.{member, adding};
 ghost use Rattle.tables.specs.Lists.{read_count};
 ghost use Rattle.tables.specs.Sites.{site_count, site_keys};
-ghost use Rattle.tables.specs.declared.Tables.{Tables};
-ghost use Rattle.plan.specs.Plan.{txns_of, Laid, Plan};
-ghost use Rattle.layout.specs.Layout.{the_versions, the_read_versions, the_recorded, the_cast};
-ghost use Rattle.layout.specs.Cells.{cell, version_in, recorded_in};
-ghost use Rattle.rules.specs.Votes.{certify_in, holds_vote, covered_in};
+ghost use Rattle.plan.specs.Planned.{Laid, Planned};
+ghost use Rattle.parts.specs.Cells.{cell, version_in, recorded_in};
+ghost use Rattle.rules.specs.Votes.{certify_in, holds_vote, covered_in, all_yes_in};
 ghost use Rattle.rules.specs.Asked.{vote_in, verdict_at, room_of};
+ghost use Rattle.steps.specs.Codes.{vote_number, verdict_number};
 ghost use Rattle.rules.specs.Fit.{counts_fit, row_fits, txn_fits, txns_fit, places_fit};
 ghost use Rattle.steps.specs.Kinds.{version};
 
-use steps::Place;
-use tables::wide;
+use parts::Parts;
+use plan::Plan;
+use steps::{Place, Verdict, Vote};
+use tables::Tables;
 
 // ---- votes
 
 // Whether each of the n reads of t was recorded.
-pub fn is_recorded(flags: &[bool; 3072], n: usize, t: usize) -> bool
+pub fn is_recorded(w: &Parts, n: usize, t: usize) -> bool
     requires { (t < 128) × (n ≤ 8) }
-    ensures { result ≡ all_below n (recorded_in (the_recorded flags.now) t) }
+    ensures { result ≡ all_below n (recorded_in w.now.recorded t) }
 {
-    let mut i = n;
-    while 0 < i {
-        i -= 1;
-        if flags[t * 8 + i] {
-            continue;
-        }
-        return false;
-    }
-    true
+    (0..n).all(|i| w.recorded[t * 8 + i])
 }
 
 // Whether t's i-th read, of key k, has the recorded version at s.
-fn is_current<'a>(
-    numbers: &'a [u32; 4224],
-    flags: &'a [bool; 3072],
-    t: usize,
-    i: usize,
-    s: usize,
-    k: u8,
-) -> bool
+fn is_current(w: &Parts, t: usize, i: usize, s: usize, k: usize) -> bool
     requires { ((t < 128) × (i < 8)) × ((s < 16) × (k < 64)) }
-    ensures { result ≡ (recorded_in (the_recorded flags.now) t i && eqb (version_in (the_versions numbers.now) s k) (get_or (the_read_versions numbers.now) (t * 8 + i) (version 0)).0) }
+    ensures { result ≡ (recorded_in w.now.recorded t i && eqb (version_in w.now.versions s k) (get_or w.now.readversions (t * 8 + i) (version 0)).0) }
 {
-    if flags[t * 8 + i] {
-        return numbers[s * 64 + wide(k)] == numbers[2048 + t * 8 + i];
-    }
-    false
+    w.recorded[t * 8 + i] && w.versions[s * 64 + k].0 == w.readversions[t * 8 + i].0
 }
 
-// The certification of t at s: 1 for yes, 2 for no.
-fn certify<'a>(
-    plan: &'a [u64; 3666],
-    numbers: &'a [u32; 4224],
-    flags: &'a [bool; 3072],
-    t: usize,
-    s: usize,
-) -> u8
+// The certification of t at s.
+fn certify(plan: &Plan, w: &Parts, t: usize, s: usize) -> Vote
     requires laid { Laid plan.now }
-    requires t_bound { (t < txns_of plan.now) × (s < 16) }
-    ensures { (T : Tables) → Plan T plan.now → result ≡ certify_in (the_versions numbers.now) (the_read_versions numbers.now) (the_recorded flags.now) T.reads (read_count T t) t s (site_keys T s) }
+    requires t_bound { (t < plan.now.tables.txns) × (s < 16) }
+    ensures { Planned plan.now → vote_number (Some result) ≡ certify_in w.now.versions w.now.readversions w.now.recorded plan.now.tables.reads (read_count plan.now.tables t) t s (site_keys plan.now.tables s) }
 {
-    let m = plan::site_set(plan, s);
-    let mut i = plan::reads(plan, t);
-    while 0 < i {
-        i -= 1;
-        let k = plan::read_key(plan, t, i);
-        if keys::has_key(m, k) {
-            if is_current(numbers, flags, t, i, s, k) {
-                continue;
-            }
-            return 2;
-        }
-    }
-    1
+    let m = plan.site_sets[s];
+    let is_yes = (0..plan.reads(t)).all(|i| {
+        let k = plan.read_key(t, i);
+        !keys::has(m, k) || is_current(w, t, i, s, k)
+    });
+    if is_yes { Vote::Yes } else { Vote::No }
 }
 
-// What s casts on t: 0 where it is not in V(t).
-pub fn vote<'a>(
-    plan: &'a [u64; 3666],
-    numbers: &'a [u32; 4224],
-    flags: &'a [bool; 3072],
-    t: usize,
-    s: usize,
-) -> u8
+// What s casts on t: nothing where it is not in V(t).
+pub fn vote(plan: &Plan, w: &Parts, t: usize, s: usize) -> Option<Vote>
     requires laid { Laid plan.now }
-    requires t_bound { (t < txns_of plan.now) × (s < 16) }
-    ensures { (T : Tables) → Plan T plan.now → result ≡ vote_in T (the_versions numbers.now) (the_read_versions numbers.now) (the_recorded flags.now) t s }
+    requires t_bound { (t < plan.now.tables.txns) × (s < 16) }
+    ensures { Planned plan.now → vote_number result ≡ vote_in plan.now.tables w.now.versions w.now.readversions w.now.recorded t s }
 {
-    if plan::is_voter(plan, t, s) {
-        return certify(plan, numbers, flags, t, s);
+    if plan.is_voter(t, s) {
+        Some(certify(plan, w, t, s))
+    } else {
+        None
     }
-    0
 }
 
 // Whether site s holds the vote of f: own is what it cast, carried those that it was handed.
@@ -104,194 +69,126 @@ pub fn has_vote(own: u8, carried: u16, s: usize, f: usize) -> bool
     ensures { result ≡ holds_vote own carried s f }
 {
     if f == s {
-        return 0 < own;
+        0 < own
+    } else {
+        keys::has(u64::from(carried), f)
     }
-    keys::has_site(carried, f)
 }
 
 // Adds the vote of f to those carried at place i.
 pub fn hand(carried: &mut [u16; 2048], i: usize, f: usize)
     requires { (i < 2048) × (f < 16) }
-    ensures { (carried.new ≡ set carried.old i (cond (member (get_or carried.old i 0) f) (get_or carried.old i 0) (adding (get_or carried.old i 0) f))) × (i < length carried.old) }
+    ensures { carried.new ≡ set carried.old i (cond (member (get_or carried.old i 0) f) (get_or carried.old i 0) (adding (get_or carried.old i 0) f)) }
 {
-    let into: &mut [u16] = carried;
-    into[i] = keys::with_site(into[i], f);
+    carried[i] = keys::with(u64::from(carried[i]), f) as u16;
 }
 
 // The set of the sites whose votes s holds.
-fn voters(own: u8, carried: u16, s: usize) -> u16
+fn voters(own: u8, carried: u16, s: usize) -> u64
     requires { s < 16 }
     ensures { (f : ℕ) → member result f ≡ holds_vote own carried s f }
 {
     if 0 < own {
-        return keys::with_site(carried, s);
+        keys::with(u64::from(carried), s)
+    } else {
+        keys::without(u64::from(carried), s)
     }
-    keys::without_site(carried, s)
 }
 
 // Whether the votes on t that s holds, those of the sites of held, cover all that t reads.
-fn is_covered(plan: &[u64; 3666], held: u16, t: usize) -> bool
+fn is_covered(plan: &Plan, held: u64, t: usize) -> bool
     requires laid { Laid plan.now }
-    requires t_bound { t < txns_of plan.now }
-    ensures { (T : Tables) (own carried s : ℕ) → Plan T plan.now → ((f : ℕ) → member held f ≡ holds_vote own carried s f) → result ≡ covered_in own carried T.sizes T.masks T.groups T.reads (read_count T t) (site_count T) t s }
+    requires t_bound { t < plan.now.tables.txns }
+    ensures { (own carried s : ℕ) → Planned plan.now → ((f : ℕ) → member held f ≡ holds_vote own carried s f) → result ≡ covered_in own carried plan.now.tables.sizes plan.now.tables.masks plan.now.tables.groups plan.now.tables.reads (read_count plan.now.tables t) (site_count plan.now.tables) t s }
 {
-    let mut i = plan::reads(plan, t);
-    while 0 < i {
-        i -= 1;
-        let k = plan::read_key(plan, t, i);
-        if keys::meet(plan::holders(plan, wide(k)), held as u64) {
-            continue;
-        }
-        return false;
-    }
-    true
+    (0..plan.reads(t)).all(|i| keys::meet(plan.holders[plan.read_key(t, i)], held))
 }
 
 // Whether the vote on t of each of n sites of held is yes.
-fn is_all_yes(marks: &[u8; 4096], held: u16, n: usize, t: usize) -> bool
+fn is_all_yes(w: &Parts, held: u64, n: usize, t: usize) -> bool
     requires { (n ≤ 16) × (t < 128) }
-    ensures { result ≡ all_below n (λ f. not (member held f) || eqb (cell 0 (the_cast marks.now) t f) 1) }
+    ensures { (carried s : ℕ) → ((f : ℕ) → member held f ≡ holds_vote (cell 0 w.now.cast t s) carried s f) → result ≡ all_yes_in w.now.cast carried n t s }
 {
-    let mut f = n;
-    while 0 < f {
-        f -= 1;
-        if keys::has_site(held, f) {
-            if marks[2048 + t * 16 + f] != 1 {
-                return false;
-            }
-        }
-    }
-    true
+    (0..n).all(|f| !keys::has(held, f) || w.cast[t * 16 + f] == 1)
 }
 
-// The verdict on t at s: 0 not known, 1 commit, 2 abort.
-pub fn verdict<'a>(
-    plan: &'a [u64; 3666],
-    marks: &'a [u8; 4096],
-    carried: &'a [u16; 2048],
-    t: usize,
-    s: usize,
-) -> u8
+// The verdict on t at s, if it is known.
+#[tactic(auto, unfolding(crate::specs::Votes::verdict_by))]
+pub fn verdict(plan: &Plan, w: &Parts, t: usize, s: usize) -> Option<Verdict>
     requires laid { Laid plan.now }
-    requires t_bound { (t < txns_of plan.now) × (s < 16) }
-    ensures { (T : Tables) → Plan T plan.now → result ≡ verdict_at T (the_cast marks.now) carried.now t s }
+    requires t_bound { (t < plan.now.tables.txns) × (s < 16) }
+    ensures { Planned plan.now → verdict_number result ≡ verdict_at plan.now.tables w.now.cast w.now.carried t s }
 {
-    if plan::reads(plan, t) == 0 {
-        return 1;
+    if plan.reads(t) == 0 {
+        return Some(Verdict::Commit);
     }
-    let held = voters(marks[2048 + t * 16 + s], carried[t * 16 + s], s);
-    if is_covered(plan, held, t) {
-        if is_all_yes(marks, held, plan::sites(plan), t) {
-            return 1;
-        }
-        return 2;
+    let held = voters(w.cast[t * 16 + s], w.carried[t * 16 + s], s);
+    if !is_covered(plan, held, t) {
+        None
+    } else if is_all_yes(w, held, plan.sites, t) {
+        Some(Verdict::Commit)
+    } else {
+        Some(Verdict::Abort)
     }
-    0
 }
 
 // Whether a commit of t at s has a version left for each key that it writes there.
-pub fn has_room<'a>(plan: &'a [u64; 3666], numbers: &'a [u32; 4224], t: usize, s: usize) -> bool
+pub fn has_room(plan: &Plan, w: &Parts, t: usize, s: usize) -> bool
     requires laid { Laid plan.now }
-    requires t_bound { (t < txns_of plan.now) × (s < 16) }
-    ensures { (T : Tables) → Plan T plan.now → result ≡ room_of T (the_versions numbers.now) t s }
+    requires t_bound { (t < plan.now.tables.txns) × (s < 16) }
+    ensures { Planned plan.now → result ≡ room_of plan.now.tables w.now.versions t s }
 {
-    let m = plan::site_set(plan, s);
-    let mut i = plan::writes(plan, t);
-    while 0 < i {
-        i -= 1;
-        let k = plan::write_key(plan, t, i);
-        if keys::has_key(m, k) {
-            if 4294967295 <= numbers[s * 64 + wide(k)] {
-                return false;
-            }
-        }
-    }
-    true
+    let m = plan.site_sets[s];
+    (0..plan.writes(t)).all(|i| {
+        let k = plan.write_key(t, i);
+        !keys::has(m, k) || w.versions[s * 64 + k].0 < u32::MAX
+    })
 }
 
 // ---- the states that a step can run on
 
-pub fn counts_fit(keys: u8, groups: u8, sizes: &[u8; 8], txns: u8) -> bool
-    ensures { result ≡ counts_fit keys groups sizes.now txns }
+#[tactic(auto, unfolding(crate::specs::Fit::counts_fit))]
+pub fn counts_fit(tables: &Tables) -> bool
+    ensures { result ≡ counts_fit tables.now.keys tables.now.groups tables.now.sizes tables.now.txns }
 {
-    if 64 < keys {
-        return false;
-    }
-    if 8 < groups {
-        return false;
-    }
-    if 16 < tables::sites_in(sizes, groups) {
-        return false;
-    }
-    txns <= 128
+    tables.keys <= 64 && tables.groups <= 8 && tables.sites() <= 16 && tables.txns <= 128
 }
 
 // Whether the n keys of row t are eight at most, below the key count, and none twice.
+#[tactic(auto, unfolding(crate::specs::Fit::row_fits))]
 fn row_fits(keys: u8, row: &[u8; 1024], t: usize, n: usize) -> bool
     requires { t < 128 }
     ensures { result ≡ row_fits keys row.now t n }
 {
-    if 8 < n {
-        return false;
-    }
-    if tables::are_present(row, t, n, keys) {
-        return !tables::is_twice(row, t, n);
-    }
-    false
+    n <= 8 && tables::are_present(row, t, n, keys) && !tables::is_twice(row, t, n)
 }
 
-fn txn_fits<'a>(
-    keys: u8,
-    reads: &'a [u8; 1024],
-    nreads: &'a [u8; 128],
-    writes: &'a [u8; 1024],
-    nwrites: &'a [u8; 128],
-    t: usize,
-) -> bool
+#[tactic(auto, unfolding(crate::specs::Fit::txn_fits))]
+fn txn_fits(tables: &Tables, t: usize) -> bool
     requires { t < 128 }
-    ensures { result ≡ txn_fits keys reads.now nreads.now writes.now nwrites.now t }
+    ensures { result ≡ txn_fits tables.now.keys tables.now.reads tables.now.nreads tables.now.writes tables.now.nwrites t }
 {
-    if row_fits(keys, reads, t, wide(nreads[t])) {
-        return row_fits(keys, writes, t, wide(nwrites[t]));
-    }
-    false
+    row_fits(tables.keys, &tables.reads, t, usize::from(tables.nreads[t]))
+        && row_fits(
+            tables.keys,
+            &tables.writes,
+            t,
+            usize::from(tables.nwrites[t]),
+        )
 }
 
-// Whether the lists of the first n transactions can be run on.
-pub fn txns_fit<'a>(
-    keys: u8,
-    reads: &'a [u8; 1024],
-    nreads: &'a [u8; 128],
-    writes: &'a [u8; 1024],
-    nwrites: &'a [u8; 128],
-    n: u8,
-) -> bool
-    requires { n ≤ 128 }
-    ensures { result ≡ txns_fit keys reads.now nreads.now writes.now nwrites.now n }
+// Whether the lists of all transactions can be run on.
+pub fn txns_fit(tables: &Tables) -> bool
+    requires { tables.now.txns ≤ 128 }
+    ensures { result ≡ txns_fit tables.now.keys tables.now.reads tables.now.nreads tables.now.writes tables.now.nwrites tables.now.txns }
 {
-    let mut t = wide(n);
-    while 0 < t {
-        t -= 1;
-        if txn_fits(keys, reads, nreads, writes, nwrites, t) {
-            continue;
-        }
-        return false;
-    }
-    true
+    (0..usize::from(tables.txns)).all(|t| txn_fits(tables, t))
 }
 
 // Whether none of the first n transactions has a place over 128.
-pub fn places_fit(places: [Place; 128], n: u8) -> bool
+pub fn places_fit(places: &[Place; 128], n: u8) -> bool
     requires { n ≤ 128 }
-    ensures { result ≡ places_fit places n }
+    ensures { result ≡ places_fit places.now n }
 {
-    let mut t = wide(n);
-    while 0 < t {
-        t -= 1;
-        let Place(p) = places[t];
-        if 128 < p {
-            return false;
-        }
-    }
-    true
+    (0..usize::from(n)).all(|t| places[t].0 <= 128)
 }

@@ -1,30 +1,24 @@
 -- What comes next is accepted, and where it is a CARRY, nothing else is.
 -- Assumes nothing.
-use Prim.Native.Nat.{ℕ, ◌+◌, ◌*◌, ◌≤◌, ◌<◌}
-use mathlib.Core.Path.{◌≡◌, refl}
-use mathlib.Core.Bool.{Bool, true, false, cond}
-use native.Mathlib.Omega.{arith}
-use lib.Dec.{eqb, ltb}
-use mathlib.Core.Logic.{inl, inr}
-use borrow.Author.Tests.{eq-eqb, eqb-true, lt-ltb, ltb-true, ltb-false}
-use Rattle.layout.specs.Cells.{place_in, nobody}
+use Rattle.std.proofs.Common.{ℕ, ◌+◌, ◌*◌, ◌≤◌, ◌<◌, ◌≡◌, refl, Bool, true, false, cond, arith, eqb, ltb, inl, inr, eq-eqb, eqb-true, lt-ltb, ltb-true, ltb-false}
+use Rattle.parts.specs.Cells.{place_in, nobody}
 use Rattle.bounded.proofs.Truth.{bool}
 use Rattle.bounded.proofs.Laws.{first_has, first_lacks}
 use Rattle.tables.specs.Sites.{site_count}
 use Rattle.tables.specs.Fits.{Fits}
 use Rattle.tables.specs.declared.Tables.{Tables}
 use Rattle.refusals.specs.Refusals.{deliver_refusal_in, carry_refusal_in}
-use Rattle.search.specs.Search.{Parts, closing, nowhere, closes_first_in, first_closing_in, first_delivering_in, first_to_in, first_from_in, first_carried_in, todo_in}
+use Rattle.search.specs.Search.{Seen, closing, nowhere, closes_first_in, first_closing_in, first_delivering_in, first_to_in, first_from_in, first_carried_in, todo_in}
 use Rattle.search.specs.Known.{first_pair}
-use Rattle.search.specs.declared.Todo.{Todo}
-use Rattle.search.specs.declared.Todo.TheVariants.{Close, Deliver, Carry, Nothing}
+use Rattle.search.specs.Search.{Todo}
+use Rattle.search.specs.Search.{Close, Deliver, Carry, Nothing}
 use Rattle.refusals.proofs.Passed.{deliver_has, carry_has}
 use Rattle.search.proofs.Closes.{close_has}
 use Rattle.search.proofs.Tried.{none_closes}
 use Rattle.search.proofs.Pair.{pair_found, pair_carries, pair_from, pair_to, carried_pair}
 
 -- a CARRY that comes next: it is between the first pair of the first transaction that has a vote to carry, and there is no CLOSE and no DELIVER
-pub record Hands (T : Tables) (w : Parts) (t from to : ℕ) : Type 0 where
+pub record Hands (T : Tables) (w : Seen) (t from to : ℕ) : Type 0 where
   pub accepted : carry_refusal_in T w.cast w.carried t from to ≡ 0
   pub giver : from < 16
   pub taker : to < 16
@@ -34,13 +28,13 @@ pub record Hands (T : Tables) (w : Parts) (t from to : ℕ) : Type 0 where
   pub closes : nowhere ≤ first_closing_in T w
   pub delivers : nowhere ≤ first_delivering_in T w.places w.delivered w.closed
 
-abbrev pub Says : Tables → Parts → Todo → Type 0
+abbrev pub Says : Tables → Seen → Todo → Type 0
 Says T w (Close t s) = (s < 16) × (closing T w t s ≡ 0)
 Says T w (Deliver s) = (s < 16) × (deliver_refusal_in T w.places w.delivered w.closed s ≡ 0)
 Says T w (Carry t from to) = Hands T w t from to
 Says T w Nothing = (nowhere ≤ first_closing_in T w) × (nowhere ≤ first_delivering_in T w.places w.delivered w.closed) × (nobody ≤ first_carried_in T w.places w.cast w.carried)
 
-module _ (T : Tables) (w : Parts) (fits : Fits T) where
+module _ (T : Tables) (w : Seen) (fits : Fits T) where
   -- what the searches find can be taken
   one_closes : (s : ℕ) → closes_first_in T w s < nobody → closing T w (closes_first_in T w s) s ≡ 0
   unfolding closes_first_in

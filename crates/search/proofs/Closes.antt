@@ -1,23 +1,19 @@
 -- What an accepted CLOSE says.
 -- Assumes nothing.
-use Prim.Native.Nat.{ℕ, ◌<◌}
-use mathlib.Core.Path.{◌≡◌}
-use mathlib.Core.Bool.{true, false, ◌&&◌, not}
-use native.Mathlib.Omega.{arith}
-use lib.Dec.{eqb, leb, ltb}
-use borrow.Author.Tests.{eq-eqb, eqb-false, leb-false, ltb-false, not-false}
+use Rattle.std.proofs.Common.{ℕ, ◌<◌, ◌≡◌, true, false, ◌&&◌, not, arith, eqb, leb, ltb, eq-eqb, leb-false, ltb-false}
+use borrow.Author.Tests.{eqb-false, not-false}
 use Rattle.queues.specs.Queue.{head_in}
-use Rattle.layout.specs.Cells.{cell}
+use Rattle.parts.specs.Cells.{cell}
 use Rattle.bounded.proofs.Truth.{passed}
 use Rattle.tables.specs.Sites.{site_count}
 use Rattle.tables.specs.Concern.{concerns}
 use Rattle.tables.specs.declared.Tables.{Tables}
 use Rattle.rules.specs.Asked.{verdict_at, room_of}
 use Rattle.refusals.specs.Refusals.{verdict_refusal_in, close_refusal_in}
-use Rattle.search.specs.Search.{Parts, closing}
+use Rattle.search.specs.Search.{Seen, closing}
 
 -- accepted: t is open in the queue of s with a known verdict; a commit is at the head and has room
-pub record Closes (T : Tables) (w : Parts) (t s : ℕ) : Type 0 where
+pub record Closes (T : Tables) (w : Seen) (t s : ℕ) : Type 0 where
   pub txn : t < T.txns
   pub site : s < site_count T
   pub concerned : concerns T t s ≡ true
@@ -27,7 +23,7 @@ pub record Closes (T : Tables) (w : Parts) (t s : ℕ) : Type 0 where
   pub head : verdict_at T w.cast w.carried t s ≡ 1 → head_in w.places w.delivered w.closed T.txns t s ≡ true
   pub room : verdict_at T w.cast w.carried t s ≡ 1 → room_of T w.versions t s ≡ true
 
-pub close_has : (T : Tables) (w : Parts) (t s : ℕ) → closing T w t s ≡ 0 → Closes T w t s
+pub close_has : (T : Tables) (w : Seen) (t s : ℕ) → closing T w t s ≡ 0 → Closes T w t s
 unfolding close_refusal_in verdict_refusal_in
 close_has T w t s h =
     let v = verdict_at T w.cast w.carried t s in

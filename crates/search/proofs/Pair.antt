@@ -1,14 +1,7 @@
 -- The first pair of sites is the giver and the taker that the search for a CARRY finds.
 -- Assumes nothing.
-use Prim.Native.Nat.{ℕ, ◌+◌, ◌*◌, ◌/◌, ◌%◌, ◌≤◌, ◌<◌}
-use mathlib.Core.Path.{◌≡◌, refl}
-use mathlib.Core.Bool.{Bool, true, false}
-use mathlib.Core.List.{List}
-use mathlib.Core.Logic.{inl, inr}
-use native.Mathlib.Omega.{arith}
-use lib.Dec.{eqb, ltb}
-use borrow.Author.Tests.{eq-eqb, eqb-true, lt-ltb, ltb-true, ltb-false}
-use Rattle.layout.specs.Cells.{place_in, nobody}
+use Rattle.std.proofs.Common.{ℕ, ◌+◌, ◌*◌, ◌/◌, ◌%◌, ◌≤◌, ◌<◌, ◌≡◌, refl, sym, Bool, Option, Some, None, MatchOption, unwrap_or, true, false, List, inl, inr, arith, eqb, ltb, eq-eqb, eqb-true, lt-ltb, ltb-true, ltb-false}
+use Rattle.parts.specs.Cells.{place_in, nobody}
 use Rattle.bounded.specs.Bounded.{least_below}
 use Rattle.bounded.proofs.Truth.{bool, clash, same}
 use Rattle.bounded.proofs.Laws.{first-is, least_stop, first-none, first_has}
@@ -57,6 +50,17 @@ module _ (T : Tables) (cast carried : List ℕ) (t : ℕ) where
   pub pair_none : (q : ℕ) → 256 ≤ q → PassedTo T cast carried t q → first_pair T cast carried t ≡ 256
   unfolding first_pair
   pair_none q l k = first-none 256 (λ i. 0) open_pair 256 (omega arith) (λ p m z. k p (omega arith) (eqb-true _ _ z))
+
+  -- so up to n, where none from p on does
+  pair_on : (p n : ℕ) → PassedTo T cast carried t p → ((q : ℕ) → p ≤ q → q < n → open_pair q ≡ false) → PassedTo T cast carried t n
+  pair_on p n k h q l z = elim (bool (ltb q p)) [ inl e ↦ k q (ltb-true q p e) z | inr e ↦ clash (eq-eqb _ _ z) (h q (ltb-false q p e) l) ]
+
+  -- what a search from p on answers
+  pub pair_search : (p : ℕ) (r : Option ℕ) → PassedTo T cast carried t p
+      → MatchOption r ((q : ℕ) → p ≤ q → q < 256 → open_pair q ≡ false) (λ i. (p ≤ i) × (i < 256) × (open_pair i ≡ true) × ((q : ℕ) → p ≤ q → q < i → open_pair q ≡ false))
+      → unwrap_or r 256 ≡ first_pair T cast carried t
+  pair_search p None k h = sym (pair_none 256 (omega arith) (pair_on p 256 k h))
+  pair_search p (Some i) k h = sym (pair_stop i h.1 (pair_on p i k h.3) h.2)
 
   -- of a local transaction there is none
   pub pair_local : local T t ≡ true → first_pair T cast carried t ≡ 256

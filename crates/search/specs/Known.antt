@@ -1,13 +1,15 @@
 -- What SETTLE remembers of tries that were refused, so as not to try again.
-use Rattle.std.specs.Prelude.{ℕ, ◌+◌, ◌/◌, ◌%◌, ◌≤◌, ◌<◌, Bool, false, true, ◌||◌, not, List, ◌≡◌, eqb, get_or}
+use Rattle.std.specs.Prelude.{ℕ, ◌/◌, ◌%◌, ◌≤◌, ◌<◌, Bool, false, true, ◌||◌, not, cond, List, ◌≡◌, eqb, ltb, get_or, map}
 use Rattle.order.specs.Order.{Ordered, waits_at, queued_at}
 use Rattle.bounded.specs.Bounded.{least_below}
 use Rattle.tables.specs.declared.Tables.{Tables}
-use Rattle.layout.specs.Layout.{portion}
-use Rattle.layout.specs.Cells.{nobody}
+use Rattle.parts.specs.Cells.{nobody}
 use Rattle.steps.specs.declared.Place.{Place}
 use Rattle.refusals.specs.Refusals.{deliver_refusal_in, carry_refusal_in}
-use Rattle.search.specs.Search.{Parts, closing}
+use Rattle.search.specs.Search.{Seen, closing}
+use Rattle.search.specs.declared.Closable.{Closable}
+use Rattle.search.specs.declared.Closable.TheVariants as closable
+use Rattle.search.specs.declared.Known.{Known}
 
 -- any transaction
 abbrev pub any : ℕ
@@ -18,11 +20,11 @@ abbrev pub excludes : ℕ → ℕ → Bool
 excludes c t = not (eqb c any || eqb c t)
 
 -- of each site, whom it can close
-abbrev pub KnowsClosing : Tables → Parts → List ℕ → Type 0
+abbrev pub KnowsClosing : Tables → Seen → List ℕ → Type 0
 KnowsClosing T w codes = (s t : ℕ) → excludes (get_or codes s any) t ≡ true → closing T w t s ≡ 0 → ⊥
 
 -- at site s, where the code is c
-abbrev pub KnowsAt : Tables → Parts → ℕ → ℕ → Type 0
+abbrev pub KnowsAt : Tables → Seen → ℕ → ℕ → Type 0
 KnowsAt T w s c = (t : ℕ) → excludes c t ≡ true → closing T w t s ≡ 0 → ⊥
 
 -- of each site, that it can deliver nothing
@@ -41,43 +43,36 @@ KnowsPassed T cast carried passed = (t : ℕ) → PassedTo T cast carried t (get
 unfoldable pub first_pair : Tables → List ℕ → List ℕ → ℕ → ℕ
 first_pair T cast carried t = least_below 256 (λ p. eqb (carry_refusal_in T cast carried t (p / 16) (p % 16)) 0) 256
 
--- ---- in one list: of each site its code, whether it is stuck, and three positions; of each transaction the pairs passed; one position
+-- ---- as it is remembered
 
-abbrev pub codes_in : List ℕ → List ℕ
-codes_in l = portion 0 (λ c. c) l 0 16
+-- whom a site can close, as a transaction, nobody or any
+abbrev pub closable_code : Closable → ℕ
+closable_code closable.Nobody = nobody
+closable_code (closable.Only t) = cond (ltb t nobody) t nobody
+closable_code closable.Anyone = any
 
-abbrev pub stuck_in : List ℕ → List Bool
-stuck_in l = portion 0 (λ x. eqb x 1) l 16 16
+-- of site s: the first position that may wait there, the first that may be in its queue and the one past the last
+abbrev pub next_at : Known → ℕ → ℕ
+next_at l s = get_or l.next s 0
 
-abbrev pub passed_in : List ℕ → List ℕ
-passed_in l = portion 0 (λ p. p) l 80 128
+abbrev pub low_at : Known → ℕ → ℕ
+low_at l s = get_or l.low s 0
 
--- of site s: the first position that may wait there, the first and the last that may be in its queue
-abbrev pub next_at : List ℕ → ℕ → ℕ
-next_at l s = get_or l (32 + s) 0
-
-abbrev pub low_at : List ℕ → ℕ → ℕ
-low_at l s = get_or l (48 + s) 0
-
-abbrev pub top_at : List ℕ → ℕ → ℕ
-top_at l s = get_or l (64 + s) 0
-
--- the first position whose transaction may have a vote to carry
-abbrev pub open_at : List ℕ → ℕ
-open_at l = get_or l 208 0
+abbrev pub top_at : Known → ℕ → ℕ
+top_at l s = get_or l.top s 0
 
 -- what l says of the transactions in order is so
-pub record Knows (T : Tables) (w : Parts) (order l : List ℕ) : Type 0 where
+pub record Knows (T : Tables) (w : Seen) (order : List ℕ) (l : Known) : Type 0 where
   pub ordered : Ordered w.places T.txns order
-  pub closing : KnowsClosing T w (codes_in l)
-  pub stuck : KnowsStuck T w.places w.delivered w.closed (stuck_in l)
-  pub passed : KnowsPassed T w.cast w.carried (passed_in l)
+  pub closing : KnowsClosing T w (map closable_code l.closable)
+  pub stuck : KnowsStuck T w.places w.delivered w.closed l.stuck
+  pub passed : KnowsPassed T w.cast w.carried l.passed
   pub next : (s i : ℕ) → s < 16 → i < next_at l s → waits_at T w.places w.delivered order s i ≡ false
   pub low : (s i : ℕ) → s < 16 → i < low_at l s → queued_at w.delivered w.closed order s i ≡ false
   pub top : (s i : ℕ) → s < 16 → top_at l s ≤ i → queued_at w.delivered w.closed order s i ≡ false
-  pub opened : (i : ℕ) → i < open_at l → get_or order i nobody < nobody → 256 ≤ get_or (passed_in l) (get_or order i nobody) 0
+  pub opened : (i : ℕ) → i < l.open → get_or order i nobody < nobody → 256 ≤ get_or l.passed (get_or order i nobody) 0
 
--- the numbers that stand for positions and pairs are such
-pub record Ranged (l : List ℕ) : Type 0 where
+-- the numbers that stand for positions are such
+pub record Ranged (l : Known) : Type 0 where
   pub top : (s : ℕ) → s < 16 → top_at l s ≤ 128
   pub next : (s : ℕ) → s < 16 → next_at l s ≤ 128

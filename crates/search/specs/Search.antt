@@ -3,16 +3,14 @@ use Rattle.std.specs.Prelude.{ℕ, Bool, cond, List, eqb, ltb}
 use Rattle.bounded.specs.Bounded.{first_below, least_below}
 use Rattle.tables.specs.Sites.{site_count}
 use Rattle.tables.specs.declared.Tables.{Tables}
-use Rattle.layout.specs.Layout.{the_versions, the_places, the_delivered, the_closed, the_cast}
-use Rattle.layout.specs.Cells.{place_in, nobody}
+use Rattle.parts.specs.Cells.{place_in, nobody}
 use Rattle.refusals.specs.Refusals.{deliver_refusal_in, carry_refusal_in, close_refusal_in}
 use Rattle.steps.specs.declared.Place.{Place}
 use Rattle.steps.specs.declared.Version.{Version}
-use Rattle.search.specs.declared.Todo.{Todo}
-use Rattle.search.specs.declared.Todo.TheVariants.{Close, Deliver, Carry, Nothing}
+use Rattle.parts.specs.declared.Parts.{Parts}
 
 -- the parts of a state that these steps look at
-pub record Parts : Type 0 where
+pub record Seen : Type 0 where
   pub versions : List Version
   pub places : List Place
   pub delivered : List Bool
@@ -20,7 +18,7 @@ pub record Parts : Type 0 where
   pub cast : List ℕ
   pub carried : List ℕ
 
-abbrev pub parts : List Version → List Place → List Bool → List ℕ → List ℕ → List ℕ → Parts
+abbrev pub parts : List Version → List Place → List Bool → List ℕ → List ℕ → List ℕ → Seen
 parts versions places delivered closed cast carried = record {
   versions = versions;
   places = places;
@@ -30,11 +28,10 @@ parts versions places delivered closed cast carried = record {
   carried = carried;
 }
 
--- of what is lent
-abbrev pub lent : List ℕ → List Bool → List ℕ → List ℕ → Parts
-lent numbers flags marks carried = parts (the_versions numbers) (the_places numbers) (the_delivered flags) (the_closed marks) (the_cast marks) carried
+abbrev pub seen : Parts → Seen
+seen w = parts w.versions w.places w.delivered w.closed w.cast w.carried
 
-abbrev pub closing : Tables → Parts → ℕ → ℕ → ℕ
+abbrev pub closing : Tables → Seen → ℕ → ℕ → ℕ
 closing T w t s = close_refusal_in T w.versions w.places w.delivered w.closed w.cast w.carried t s
 
 -- no site: what a search answers where there is none
@@ -42,10 +39,10 @@ abbrev pub nowhere : ℕ
 nowhere = 16
 
 -- CLOSE: the lowest site, then queue order
-unfoldable pub closes_first_in : Tables → Parts → ℕ → ℕ
+unfoldable pub closes_first_in : Tables → Seen → ℕ → ℕ
 closes_first_in T w s = first_below T.txns (place_in w.places) (λ t. eqb (closing T w t s) 0) nobody
 
-unfoldable pub first_closing_in : Tables → Parts → ℕ
+unfoldable pub first_closing_in : Tables → Seen → ℕ
 first_closing_in T w = least_below (site_count T) (λ s. ltb (closes_first_in T w s) nobody) nowhere
 
 -- DELIVER: the lowest site
@@ -62,8 +59,15 @@ first_from_in T cast carried t = least_below (site_count T) (λ from. ltb (first
 unfoldable pub first_carried_in : Tables → List Place → List ℕ → List ℕ → ℕ
 first_carried_in T places cast carried = first_below T.txns (place_in places) (λ t. ltb (first_from_in T cast carried t) nowhere) nobody
 
+-- a step that SETTLE may take
+pub data Todo : Type 0 where
+  Close : ℕ → ℕ → Todo
+  Deliver : ℕ → Todo
+  Carry : ℕ → ℕ → ℕ → Todo
+  Nothing : Todo
+
 -- the first step accepted
-unfoldable pub todo_in : Tables → Parts → Todo
+unfoldable pub todo_in : Tables → Seen → Todo
 todo_in T w =
     let s = first_closing_in T w in
     let d = first_delivering_in T w.places w.delivered w.closed in

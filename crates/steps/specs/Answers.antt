@@ -1,17 +1,23 @@
 -- An answer's number and its two values: 0 and what the step gives, or the refusal and two zeros.
-use Rattle.std.specs.Prelude.{ℕ}
+use Rattle.std.specs.Prelude.{ℕ, Result, Ok, Err}
 use Rattle.steps.specs.declared.Numbers.{Numbers}
+use Rattle.numbers.specs.Numbers.{step_number}
+use Rattle.numbers.specs.declared.StepRefusal.{StepRefusal}
 use Rattle.steps.specs.declared.Answer.{Answer}
-use Rattle.steps.specs.declared.Answer.TheVariants.{Read, Submitted, Delivered, Carried, Closed, Settled, Refused}
+use Rattle.steps.specs.declared.Answer.TheVariants.{Read, Submitted, Delivered, Carried, Closed, Settled}
+
+-- accepted with an answer, or refused
+abbrev pub Answered : Type 0
+Answered = Result Answer StepRefusal
 
 abbrev pub numbers : ℕ → ℕ → ℕ → Numbers
 numbers n a b = record { code = n; first = a; second = b }
 
-abbrev pub numbers_of : Answer → Numbers
-numbers_of (Read version value) = numbers 0 version.0 value
-numbers_of (Submitted place) = numbers 0 place.0 0
-numbers_of (Delivered t vote) = numbers 0 t vote
-numbers_of (Carried vote) = numbers 0 vote 0
-numbers_of (Closed verdict) = numbers 0 verdict 0
-numbers_of (Settled count) = numbers 0 count 0
-numbers_of (Refused n) = numbers n 0 0
+abbrev pub numbers_of : Answered → Numbers
+numbers_of (Ok (Read version value)) = numbers 0 version.0 value
+numbers_of (Ok (Submitted place)) = numbers 0 place.0 0
+numbers_of (Ok (Delivered t vote)) = numbers 0 t vote
+numbers_of (Ok (Carried vote)) = numbers 0 vote 0
+numbers_of (Ok (Closed verdict)) = numbers 0 verdict 0
+numbers_of (Ok (Settled count)) = numbers 0 count 0
+numbers_of (Err r) = numbers (step_number r) 0 0

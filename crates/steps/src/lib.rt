@@ -3,15 +3,18 @@
 
 ghost use Rattle.std.specs.Prelude.{◌≡◌};
 ghost use Rattle.steps.specs.Answers.{numbers, numbers_of};
+ghost use Rattle.steps.specs.Codes.{vote_number, verdict_number};
+
+use numbers::StepRefusal;
 
 // How often a key was written, the first value counting as one; and a transaction's place in the order, 0 for none.
-#[derive(Clone, Copy)]
+#[derive(Clone, Copy, Debug, PartialEq, Eq, PartialOrd, Ord)]
 pub struct Version(pub u32);
 
-#[derive(Clone, Copy)]
+#[derive(Clone, Copy, Debug, PartialEq, Eq, PartialOrd, Ord)]
 pub struct Place(pub u32);
 
-#[derive(Clone, Copy)]
+#[derive(Clone, Copy, Debug, PartialEq, Eq)]
 pub enum Step {
     Read { t: u8, i: u8, s: u8 },
     Submit(u8),
@@ -21,7 +24,20 @@ pub enum Step {
     Settle,
 }
 
-#[derive(Clone, Copy)]
+#[derive(Clone, Copy, Debug, PartialEq, Eq)]
+pub enum Vote {
+    Yes = 1,
+    No = 2,
+}
+
+#[derive(Clone, Copy, Debug, PartialEq, Eq)]
+pub enum Verdict {
+    Commit = 1,
+    Abort = 2,
+}
+
+// What an accepted step answers; a vote is 0 for none, 1 for yes, else no, a verdict 1 for commit, 2 for abort.
+#[derive(Clone, Copy, Debug, PartialEq, Eq)]
 pub enum Answer {
     Read(Version, u32),
     Submitted(Place),
@@ -29,11 +45,10 @@ pub enum Answer {
     Carried(u8),
     Closed(u8),
     Settled(u32),
-    Refused(u8),
 }
 
 // An answer as it is listed.
-#[derive(Clone, Copy)]
+#[derive(Clone, Copy, Debug, PartialEq, Eq)]
 pub struct Numbers {
     pub code: u32,
     pub first: u32,
@@ -50,17 +65,37 @@ fn listed(code: u32, first: u32, second: u32) -> Numbers
     }
 }
 
-// An answer's number and its two values.
-pub fn numbers_of(a: Answer) -> Numbers
-    ensures { result ≡ numbers_of a }
-{
-    match a {
-        Answer::Read(version, value) => listed(0, version.0, value),
-        Answer::Submitted(place) => listed(0, place.0, 0),
-        Answer::Delivered { t, vote } => listed(0, t as u32, vote as u32),
-        Answer::Carried(vote) => listed(0, vote as u32, 0),
-        Answer::Closed(verdict) => listed(0, verdict as u32, 0),
-        Answer::Settled(count) => listed(0, count, 0),
-        Answer::Refused(n) => listed(n as u32, 0, 0),
+impl From<Result<Answer, StepRefusal>> for Numbers {
+    ghost from_gives = { λ a n. n ≡ numbers_of a };
+
+    // An answer's number and its two values.
+    fn from(answer: Result<Answer, StepRefusal>) -> Numbers {
+        match answer {
+            Ok(Answer::Read(version, value)) => listed(0, version.0, value),
+            Ok(Answer::Submitted(place)) => listed(0, place.0, 0),
+            Ok(Answer::Delivered { t, vote }) => listed(0, u32::from(t), u32::from(vote)),
+            Ok(Answer::Carried(vote)) => listed(0, u32::from(vote), 0),
+            Ok(Answer::Closed(verdict)) => listed(0, u32::from(verdict), 0),
+            Ok(Answer::Settled(count)) => listed(0, count, 0),
+            Err(refusal) => listed(u32::from(refusal.number()), 0, 0),
+        }
+    }
+}
+
+impl Vote {
+    // The number by which a vote is kept.
+    pub fn number(self) -> u8
+        ensures { result ≡ vote_number (Some self) }
+    {
+        self as u8
+    }
+}
+
+impl Verdict {
+    // The number by which a verdict is kept.
+    pub fn number(self) -> u8
+        ensures { result ≡ verdict_number (Some self) }
+    {
+        self as u8
     }
 }

@@ -1,20 +1,27 @@
--- One turn of the walk over groups, and what the absence of a refusal says.
+-- One turn of the walk over groups, and what a refusal and its absence say.
 -- Assumes nothing.
-use mathlib.Core.Path.{◌≡◌, refl, sym, ◌∙◌}
-use mathlib.Core.Bool.{cond}
-use mathlib.Core.Logic.{inl, inr}
-use mathlib.Core.List.{List}
-use Prim.Native.Nat.{ℕ, suc, ◌+◌, ◌-◌, ◌≤◌, ◌<◌}
-use native.Mathlib.Omega.{arith}
-use lib.Dec.{leb, ltb}
-use lib.ListN.{get_or}
-use borrow.Author.Tests.{le-leb, ltb-true, ltb-false}
-use Rattle.bounded.specs.Bounded.{first_of}
+use Rattle.std.proofs.Common.{ℕ, suc, ◌+◌, ◌-◌, ◌≤◌, ◌<◌, ◌≡◌, refl, sym, ◌∙◌, cond, inl, inr, List, arith, leb, ltb, get_or, le-leb, ltb-true, ltb-false, ap, add-one, Result, Ok, Err, IsErrAnd}
+use Rattle.bounded.specs.Bounded.{first_of, or_else}
 use Rattle.bounded.proofs.Truth.{bool, or-false, passed}
-use Rattle.bounded.proofs.Laws.{of_none}
+use Rattle.bounded.proofs.Laws.{of_none, else-keep, sum_up}
+use Rattle.numbers.specs.Numbers.{file_number, file_answer}
+use Rattle.numbers.specs.declared.FileRefusal.{FileRefusal}
+use Rattle.numbers.proofs.Laws.{file_above}
 use Rattle.tables.specs.Sites.{sites_in, keys_from}
 use Rattle.tables.specs.Judge.{group_refusal, size_refusal, count_refusal}
 use Rattle.tables.specs.declared.Tables.{Tables}
+
+-- what a `?` hands on
+pub handed : (r : Result (Unit {0}) FileRefusal) (e : FileRefusal) → IsErrAnd r (λ y. y ≡ e) → file_answer r ≡ file_number e
+handed (Ok x) e p = absurd p
+handed (Err y) e p = ap file_number p
+
+-- it stands before anything else; where there is none, what comes after it counts
+pub before : (r : FileRefusal) (a b : ℕ) → file_number r ≡ a → file_number r ≡ or_else a b
+before r a b e = e ∙ sym (else-keep a b (λ z. file_above r (e ∙ z)))
+
+pub after : (x a b : ℕ) → 0 ≡ a → x ≡ b → x ≡ or_else a b
+after x a b e f = rw (← e) f
 
 -- where a group is left
 pub keys_turn : (n g : ℕ) (sizes masks : List ℕ) (s : ℕ) → g < n
@@ -23,6 +30,11 @@ keys_turn n g sizes masks s l = rw e (unfold keys_from in refl)
   where
     e : n - g ≡ suc (n - (g + 1))
     e = omega arith
+
+-- the refusal of group g, where n counts the sites before it
+pub group_at : (T : Tables) (g n at size : ℕ) → at ≡ g → size ≡ get_or T.sizes at 0 → n ≡ sites_in T.sizes g
+    → size_refusal T.keys g (get_or T.sizes at 0) (n + size) (get_or T.masks at 0) ≡ group_refusal T g
+group_at T g n at size a s e = rw (← add-one g, sum_up, ← e, s, a)
 
 -- counts that are not refused are at most eight
 pub count_low : (t r w : ℕ) → count_refusal t r w ≡ 0 → (r ≤ 8) × (w ≤ 8)

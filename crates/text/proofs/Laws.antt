@@ -13,7 +13,8 @@ use lib.ListN.{length, get_or, set, take, drop, length-append}
 use lib.Seq.{sets, length-sets, sets-eq}
 use borrow.Author.Tests.{lt-ltb, le-ltb, ltb-true, ltb-false}
 use Rattle.text.specs.Text.{digits_by, digits_of, fields_of, each}
-use Rattle.text.specs.Wrote.{put, Wrote}
+use Rattle.text.specs.Wrote.{put, Wrote, Writes}
+use Rattle.text.specs.declared.Writer.{Writer}
 
 sets_append : (xs : List ℕ) (l : List ℕ) (i : ℕ) (ys : List ℕ) → sets (sets l i xs) (i + length xs) ys ≡ sets l i (xs ++ ys)
 sets_append [] l i ys = rw add-zero
@@ -126,3 +127,23 @@ fields_each (n ∷ ns) =
     ap (λ (l : List ℕ). (32 ∷ digits_of n) ++ l) (fields_each ns)
     ∙ sym (append_assoc (32 ∷ digits_of n) (each (length ns) (λ i. 32 ∷ digits_of (get_or ns i 0))) (10 ∷ []))
     ∙ ap (λ (l : List ℕ). l ++ (10 ∷ [])) (sym (each_first (length ns) (λ i. 32 ∷ digits_of (get_or (n ∷ ns) i 0))))
+
+-- the same of writers
+pub writes_nothing : {w : Writer} → Writes w w []
+writes_nothing = record { lent = refl; wrote = nothing }
+
+pub writes_then : {u v w : Writer} {xs ys : List ℕ} → Writes u v xs → Writes v w ys → Writes u w (xs ++ ys)
+writes_then p q = record { lent = q.lent ∙ p.lent; wrote = then p.wrote q.wrote }
+
+pub writes_none : (f : ℕ → List ℕ) {w : Writer} → Writes w w (each 0 f)
+unfolding each
+writes_none f = writes_nothing
+
+pub writes_more : (f : ℕ → List ℕ) (i : ℕ) {u v w : Writer} → Writes u v (each i f) → Writes v w (f i) → Writes u w (each (i + 1) f)
+writes_more f i p q = rw (each_more f i) (writes_then p q)
+
+pub writes_one : {w v : Writer} {d n : ℕ} → n < 10 → d ≡ 48 + n → Writes w v (d ∷ []) → Writes w v (digits_of n)
+writes_one {n = n} h e p = rw (digits_one n h, ← e) p
+
+pub writes_digits : {u v w : Writer} {d n : ℕ} → 10 ≤ n → Writes u v (digits_of (n / 10)) → d ≡ 48 + n % 10 → Writes v w (d ∷ []) → Writes u w (digits_of n)
+writes_digits {n = n} h p e q = rw (digits_more n h, ← e) (writes_then p q)

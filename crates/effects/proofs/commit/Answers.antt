@@ -1,38 +1,35 @@
-use mathlib.Core.Path.{◌≡◌, sym, ◌∙◌}
-use native.Mathlib.Omega.{arith}
-use lib.ListN.{length-set}
-use Rattle.bounded.proofs.Truth.{clash}
-use Rattle.keys.specs.Keys.{member}
-use Rattle.plan.specs.Plan.{site_set, write_at}
-use Rattle.effects.proofs.Writes.{none_written, one_written, one_skipped, length-written, inside_up}
+use Rattle.std.proofs.Common.{rules, arith, ◌≡◌, sym, ◌∙◌, ◌+◌, ◌*◌, ◌<◌, true, get_or}
+use Rattle.keys.proofs.Laws.{low}
+use Rattle.tables.specs.Lists.{write_key}
+use Rattle.tables.specs.Sites.{holds}
+use Rattle.effects.proofs.Stores.{none_written, one_written, one_skipped}
 use Rattle.effects.proofs.commit.Goals as goal
-use Rattle.effects.proofs.commit.Goals.{After-has_key, After-wide}
+use Rattle.effects.proofs.commit.Goals.{After-has, then-has, else-has}
 
--- whether s holds its key
-held : (c : After-has_key) → member (site_set c.args.plan.now c.args.s) (write_at c.args.plan.now c.args.t c.loop-i.i) ≡ c.has_key.result
-held c = rw (← c.site_set-m.ensures, ← c.write_key-k.ensures) (sym c.has_key.ensures)
+-- whether s holds the key
+held : (c : After-has) → holds c.args.plan.now.tables c.args.s (write_key c.args.plan.now.tables c.args.t c.loop-i.i) ≡ c.has.result
+held c = rw (← c.requires.planned.site_sets c.args.s (omega arith), ← c.write_key-k.ensures.0) (sym c.has.ensures)
 
--- the key, widened
-key : (c : After-wide) → c.wide.result ≡ write_at c.args.plan.now c.args.t c.loop-i.i
-key c = c.wide.ensures.0 ∙ c.write_key-k.ensures
+-- a key that s holds is below 64, so its cell is in the stores
+inside : (c : After-has) → c.has.result ≡ true → c.args.s * 64 + c.write_key-k.result < 1024
+inside c h = let b = low 64 (get_or c.args.plan.now.site_sets c.args.s 0) c.write_key-k.result (search rules) (sym c.has.ensures ∙ h) in omega (arith, b)
 
 pub loop-i-init : goal.loop-i-init
-loop-i-init c = (omega arith, (sym (none_written _ _ _ _), λ j b. absurd (omega arith)))
+loop-i-init c = sym (none_written _ _ _ _)
 
-pub loop-i-preserved-then-has_key : goal.loop-i-preserved-then-has_key
-loop-i-preserved-then-has_key c = let k = key (goal.at.loop-i-preserved-then-has_key c).After-wide in
-    let yes = held (goal.at.loop-i-preserved-then-has_key c).After-has_key ∙ c.if-has_key.true in
-    let (n, (e, inside)) = c.loop-i.invariant in
-    let within = rw (c.put_number.ensures.0, length-set, e, length-written, k) at c.put_number-then-has_key.ensures.1 in (
-      omega (arith, c.loop-i-test.true),
-      (
-        rw (c.put_number-then-has_key.ensures.0, c.put_number.ensures.0, k, c.given-x.ensures, e) (sym (one_written _ _ _ _ _ yes)),
-        inside_up c.args.plan.now c.args.t c.args.s c.args.numbers.now c.loop-i.i (λ _. within) inside,
-      ),
-    )
+pub bounds-w-at : goal.bounds-w-at
+bounds-w-at c = inside (goal.at.bounds-w-at c).After-has c.if-has.true
+
+pub bounds-w-at-then-has : goal.bounds-w-at-then-has
+bounds-w-at-then-has c = inside (goal.at.bounds-w-at-then-has c).After-has c.if-has.true
+
+pub bounds-w-at-then-has-2 : goal.bounds-w-at-then-has-2
+bounds-w-at-then-has-2 c = inside (goal.at.bounds-w-at-then-has-2 c).After-has c.if-has.true
 
 pub loop-i-preserved : goal.loop-i-preserved
-loop-i-preserved c = let no = held (goal.at.loop-i-preserved c).After-has_key ∙ c.if-has_key.false in
-    let (n, (e, inside)) = c.loop-i.invariant in
-    let up = inside_up c.args.plan.now c.args.t c.args.s c.args.numbers.now c.loop-i.i (λ yes. clash yes no) inside in
-    (omega (arith, c.loop-i-test.true), (e ∙ sym (one_skipped _ _ _ _ _ no), up))
+loop-i-preserved c =
+    let h = held (goal.at.loop-i-preserved c).After-has in
+    elim c.if-has.branch [
+      | then-has w ↦ rw (w.w-is, w.given.ensures, c.write_key-k.ensures.0, c.loop-i.invariant) (sym (one_written _ _ _ _ _ (h ∙ w.if-has.true)))
+      | else-has w ↦ w.w-is ∙ c.loop-i.invariant ∙ sym (one_skipped _ _ _ _ _ (h ∙ w.if-has.false))
+    ]

@@ -1,16 +1,17 @@
 -- Each `return` by the refusal and what is left of the setup.
-use borrow.Author.Tests.{eq-eqb, ne_eqb, le-leb, lt-leb}
+use Rattle.std.proofs.Common.{le-leb}
+use Rattle.std.proofs.lemmas.Bool.{lt-leb}
 use Rattle.files.specs.Setup.{ended}
+use Rattle.files.proofs.Refusals.{handed, placed_ok, ended_err}
 use Rattle.files.proofs.ended.Goals as goal
 
-pub returns-then-s-next : goal.returns-then-s-next
-unfolding ended
-returns-then-s-next c = rw (← c.end_refusal-n.ensures, eq-eqb _ _ c.if-n-eq0.true, le-leb _ _ c.if-s-next.true)
+pub returns-in_err-placed : goal.returns-in_err-placed
+returns-in_err-placed c = rw (handed _ _ c.from_residual.ensures.1) (ended_err _ _ _ _ _ _ c.end_refusal.ensures c.in_err-placed.ensures)
 
-pub returns-then-n-eq0 : goal.returns-then-n-eq0
+pub returns-then-next-s : goal.returns-then-next-s
 unfolding ended
-returns-then-n-eq0 c = rw (← c.end_refusal-n.ensures, eq-eqb _ _ c.if-n-eq0.true, lt-leb _ _ c.if-s-next.false)
+returns-then-next-s c = rw (← c.end_refusal.ensures, placed_ok _ _ _ c.in_ok-placed.ensures, lt-leb _ _ c.if-next-s.true)
 
 pub returns : goal.returns
 unfolding ended
-returns c = rw (← c.end_refusal-n.ensures, ne_eqb _ _ c.if-n-eq0.false)
+returns c = rw (← c.end_refusal.ensures, placed_ok _ _ _ c.in_ok-placed.ensures, le-leb _ _ c.if-next-s.false)

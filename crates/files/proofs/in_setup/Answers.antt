@@ -1,24 +1,25 @@
--- Each `return` by the tests that led there.
-use borrow.Author.Tests.{eq-eqb, ne_eqb}
+-- Each case by the tests that led there.
+use Rattle.std.proofs.Common.{arith, eq-eqb, ne_eqb}
+use Rattle.std.proofs.lemmas.Grind.{common_steps}
 use Rattle.files.specs.Setup.{allowed}
 use Rattle.files.proofs.in_setup.Goals as goal
 
-pub returns-then-keys-eq0 : goal.returns-then-keys-eq0
+pub returns-then-t-eq0 : goal.returns-then-t-eq0
 unfolding allowed
-returns-then-keys-eq0 c = simp (eq-eqb _ _ c.if-keys-eq0.true)
+returns-then-t-eq0 c = simp (eq-eqb _ _ c.if-t-eq0.true)
 
-pub returns-then-groups-eq0 : goal.returns-then-groups-eq0
+pub returns-then-t-eq0-2 : goal.returns-then-t-eq0-2
 unfolding allowed
-returns-then-groups-eq0 c = simp (ne_eqb _ _ c.if-keys-eq0.false, eq-eqb _ _ c.if-groups-eq0.true)
+returns-then-t-eq0-2 c = simp (ne_eqb _ _ c.if-t-eq0.false, eq-eqb _ _ c.if-t-eq0-2.true)
 
-pub returns-then-tag-eq-GROUP : goal.returns-then-tag-eq-GROUP
+pub returns-in-2 : goal.returns-in-2
 unfolding allowed
-returns-then-tag-eq-GROUP c = simp (ne_eqb _ _ c.if-keys-eq0.false, ne_eqb _ _ c.if-groups-eq0.false, eq-eqb _ _ c.if-tag-eq-GROUP.true)
+returns-in-2 c = rw c.in-2.is (simp (ne_eqb _ _ c.if-t-eq0.false, ne_eqb _ _ c.if-t-eq0-2.false))
 
-pub returns-then-tag-eq-TXN : goal.returns-then-tag-eq-TXN
+pub returns-in-3 : goal.returns-in-3
 unfolding allowed
-returns-then-tag-eq-TXN c = simp (ne_eqb _ _ c.if-keys-eq0.false, ne_eqb _ _ c.if-groups-eq0.false, ne_eqb _ _ c.if-tag-eq-GROUP.false, eq-eqb _ _ c.if-tag-eq-TXN.true)
+returns-in-3 c = grind (arith, common_steps)
 
-pub returns : goal.returns
+pub returns-in_default : goal.returns-in_default
 unfolding allowed
-returns c = rw (ne_eqb _ _ c.if-keys-eq0.false, ne_eqb _ _ c.if-groups-eq0.false, ne_eqb _ _ c.if-tag-eq-GROUP.false, ne_eqb _ _ c.if-tag-eq-TXN.false)
+returns-in_default c = grind (arith, common_steps)

@@ -1,5 +1,5 @@
 -- Only the tag of what was found is asked about.
-use mathlib.Core.Path.{◌∙◌}
+use Rattle.std.proofs.Common.{◌∙◌}
 use Rattle.records.specs.Judge.{judge_at}
 use Rattle.records.proofs.Good.{one_tag}
 use Rattle.files.specs.Schedule.{in_schedule}

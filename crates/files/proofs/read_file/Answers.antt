@@ -1,22 +1,12 @@
--- Each `return` by the tests of the two lengths.
-use Prim.Native.Nat.{◌+◌, ◌<◌, ◌≤◌}
-use native.Mathlib.Omega.{arith}
-use lib.ListN.{length}
-use borrow.Author.Tests.{lt-ltb, le-ltb}
+use Rattle.std.proofs.Common.{◌+◌, ◌<◌, ◌≤◌, length, arith, lt-ltb, le-ltb}
 use Rattle.files.specs.File.{limit, file_of}
 use Rattle.files.proofs.read_file.Goals as goal
 
 pub returns-then-setup-gt-LIMIT : goal.returns-then-setup-gt-LIMIT
 unfolding file_of
 returns-then-setup-gt-LIMIT c = let a = c.args in
-    let h : limit < length a.setup.now + length a.schedule.now = omega arith in
-    rw (lt-ltb _ _ h) c.too_long.ensures
-
-pub returns-then-setup-schedule : goal.returns-then-setup-schedule
-unfolding file_of
-returns-then-setup-schedule c = let a = c.args in
-    let h : limit < length a.setup.now + length a.schedule.now = omega arith in
-    rw (lt-ltb _ _ h) c.too_long-then-setup-schedule.ensures
+    let h : limit < length a.setup.now + length a.schedule.now = grind arith in
+    rw (lt-ltb _ _ h, c.no_tables.ensures)
 
 pub returns : goal.returns
 unfolding file_of

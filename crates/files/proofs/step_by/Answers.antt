@@ -1,6 +1,5 @@
 -- Each arm by its tag.
-use native.Mathlib.Omega.{arith}
-use borrow.Author.Tests.{ne_eqb}
+use Rattle.std.proofs.Common.{arith, ne_eqb}
 use Rattle.files.specs.Schedule.{step_by}
 use Rattle.files.proofs.step_by.Goals as goal
 

@@ -1,15 +1,29 @@
--- A record that is not good is refused; a good one is given its numbers.
-use mathlib.Core.Path.{sym, ◌∙◌}
+-- A record that is not good is refused; a good one is END or is taken into the tables.
+use Rattle.std.proofs.Common.{sym, ◌∙◌, arith, eq-eqb, ne_eqb}
+use Rattle.records.proofs.Good.{good_is}
 use Rattle.files.specs.Setup.{turn_of}
+use Rattle.files.proofs.Refusals.{handed, placed_ok, judged_err, taken_ok, taken_err}
 use Rattle.files.proofs.turn.Goals as goal
 
-pub returns-in_default : goal.returns-in_default
-unfolding turn_of
-returns-in_default c = rw (c.progress_by.ensures, ← c.judge_setup-judged.ensures, c.in_default.is)
+pub returns-in_err-record : goal.returns-in_err-record
+returns-in_err-record c = rw (handed _ _ c.from_residual.ensures.1) (judged_err _ _ _ _ _ c.judge_setup.ensures c.in_err-record.ensures)
 
-pub good_turn-requires : goal.good_turn-requires
-good_turn-requires c = (c.requires, sym c.judge_setup-judged.ensures ∙ c.in-Good.is)
+pub returns-then-record-eq-END : goal.returns-then-record-eq-END
+unfolding turn_of
+returns-then-record-eq-END c = rw (← c.judge_setup.ensures, placed_ok _ _ _ c.in_ok-record.ensures, eq-eqb _ _ c.if-record-eq-END.true) c.ended.ensures
+
+pub take-requires : goal.take-requires
+take-requires c = let i = good_is (sym c.judge_setup.ensures ∙ placed_ok _ _ _ c.in_ok-record.ensures) in
+    record { lies = omega (arith, i.lies); fitting = i.fitting; allowed = (i.allowed, c.if-record-eq-END.false) }
+
+pub returns-in_err-placed : goal.returns-in_err-placed
+unfolding turn_of
+returns-in_err-placed c =
+    rw (c.take.ensures.then, handed _ _ c.from_residual-in_err-placed.ensures.1, ← c.judge_setup.ensures, placed_ok _ _ _ c.in_ok-record.ensures, ne_eqb _ _ c.if-record-eq-END.false)
+    (taken_err _ _ _ _ _ _ _ c.take.ensures.why c.in_err-placed.ensures)
 
 pub returns : goal.returns
 unfolding turn_of
-returns c = rw (← c.judge_setup-judged.ensures, c.in-Good.is) c.good_turn.ensures
+returns c =
+    rw (c.take.ensures.then, ← c.judge_setup.ensures, placed_ok _ _ _ c.in_ok-record.ensures, ne_eqb _ _ c.if-record-eq-END.false)
+    (taken_ok _ _ _ _ _ _ c.take.ensures.why c.in_ok-placed.ensures)

@@ -4,4 +4,4 @@ use Rattle.files.proofs.with_keys.Goals as goal
 
 pub returns : goal.returns
 unfolding with_keys
-returns c = rw c.first_values-first.ensures
+returns c = rw c.put_row.ensures

@@ -1,45 +1,31 @@
 -- The stores are those of `with_txn`; the counts, at most eight, give each row its room.
-use Prim.Native.Nat.{◌≤◌}
-use mathlib.Core.Path.{◌≡◌}
-use native.Mathlib.Omega.{arith}
+use Rattle.std.proofs.Common.{◌≤◌, arith}
 use Rattle.records.proofs.Laws.{byte}
 use Rattle.files.specs.Rows.{with_txn}
-use Rattle.files.proofs.Txn.{first_count, second_count}
 use Rattle.files.proofs.with_txn.Goals as goal
-use Rattle.files.proofs.with_txn.Goals.{After-wide-m}
+use Rattle.files.proofs.with_txn.Goals.{After-from-m}
 
--- the place, and the counts, which are at most eight
-record Counted (c : After-wide-m) : Type 0 where
-  place : c.wide-x.result ≡ c.args.t.txns
-  reads : c.wide-n.result ≡ first_count c.args.s.now c.args.start
-  writes : c.wide-m.result ≡ second_count c.args.s.now c.args.start
-  few_reads : c.wide-n.result ≤ 8
-  few_writes : c.wide-m.result ≤ 8
+-- the counts, which are at most eight
+few_reads : (c : After-from-m) → c.from-n.result ≤ 8
+few_reads c = rw (c.from-n.ensures, ← byte) c.requires.start_bound.0
 
-counted : (c : After-wide-m) → Counted c
-counted c =
-    let r = c.wide-n.ensures.0 in
-    let w : c.wide-m.result ≡ second_count c.args.s.now c.args.start = rw r at c.wide-m.ensures.0 in
-    record {
-      place = c.wide-x.ensures.0;
-      reads = r;
-      writes = w;
-      few_reads = rw (r, ← byte) c.requires.start_bound.0;
-      few_writes = rw w (simp byte at c.requires.start_bound.1);
-    }
+few_writes : (c : After-from-m) → c.from-m.result ≤ 8
+few_writes c = rw (c.from-m.ensures, c.from-n.ensures) (simp byte at c.requires.start_bound.1)
 
-pub key_row-reads-requires : goal.key_row-reads-requires
-key_row-reads-requires c = let i = counted (goal.at.key_row-reads-requires c).After-wide-m in
-    (omega (arith, i.place, i.few_reads, c.requires.start_in_bounds.1), (omega arith, omega (arith, c.requires.start_in_bounds.0, i.reads)))
+pub put_row-requires : goal.put_row-requires
+put_row-requires c = let f = few_reads (goal.at.put_row-requires c).After-from-m in
+    (omega (arith, c.requires.start_in_bounds.1), omega (arith, c.requires.start_in_bounds.0))
 
-pub key_row-writes-requires : goal.key_row-writes-requires
-key_row-writes-requires c = let i = counted (goal.at.key_row-writes-requires c).After-wide-m in
-    (omega (arith, i.place, i.few_writes, c.requires.start_in_bounds.1), (omega arith, omega (arith, c.requires.start_in_bounds.0, i.reads, i.writes)))
+pub put_row-requires-2 : goal.put_row-requires-2
+put_row-requires-2 c = let f = few_writes (goal.at.put_row-requires-2 c).After-from-m in
+    let m = rw c.from-n.ensures at c.from-m.ensures in
+    (omega (arith, c.requires.start_in_bounds.1), omega (arith, c.requires.start_in_bounds.0))
 
-pub value_row-gives-requires : goal.value_row-gives-requires
-value_row-gives-requires c = let i = counted (goal.at.value_row-gives-requires c).After-wide-m in
-    (omega (arith, i.place, i.few_writes, c.requires.start_in_bounds.1), omega (arith, c.requires.start_in_bounds.0, i.reads, i.writes))
+pub put_row-requires-3 : goal.put_row-requires-3
+put_row-requires-3 c = let f = few_writes (goal.at.put_row-requires-3 c).After-from-m in
+    let m = rw c.from-n.ensures at c.from-m.ensures in
+    (omega (arith, c.requires.start_in_bounds.1), omega (arith, c.requires.start_in_bounds.0))
 
 pub returns : goal.returns
 unfolding with_txn
-returns c = rw (c.value_row-gives.ensures, c.key_row-writes.ensures, c.key_row-reads.ensures, c.wide-m.ensures.0, c.wide-n.ensures.0, c.wide-x.ensures.0) (simp byte)
+returns c = rw (c.put_row-3.ensures, c.put_row-2.ensures, c.put_row.ensures, c.from-m.ensures, c.from-n.ensures, c.from-x.ensures) (simp byte)

@@ -1,95 +1,95 @@
-use Prim.Native.Nat.{ℕ, ◌+◌, ◌*◌, ◌/◌, ◌%◌, ◌<◌}
-use mathlib.Core.Path.{◌≡◌, refl, sym, subst, ◌∙◌}
-use mathlib.Core.List.{List}
-use mathlib.Core.Logic.{inl}
-use mathlib.Core.Bool.{Bool, true, cond}
-use native.Mathlib.Omega.{arith}
-use lib.Dec.{eqb}
-use lib.ListN.{length, set}
-use lib.Seq.{get_or-set_other}
+use Rattle.std.proofs.Common.{ℕ, ◌≡◌, ◌+◌, ◌*◌, ◌/◌, ◌%◌, ◌<◌, Bool, true, cond, List, eqb, length, length-set, set, arith, ap, refl, sym, ◌∙◌}
 use Rattle.keys.specs.Keys.{member, adding}
-use Rattle.layout.specs.Cells.{cell}
+use Rattle.parts.specs.Cells.{cell}
+use Rattle.parts.specs.Changed.{with_votes}
+use Rattle.parts.specs.declared.Parts.{Parts}
+use Rattle.order.specs.Order.{codes}
 use Rattle.tables.specs.Fits.{Fits}
 use Rattle.tables.specs.Sites.{site_count}
-use Rattle.refusals.specs.Refusals.{carry_refusal_in}
 use Rattle.tables.specs.declared.Tables.{Tables}
-use Rattle.search.specs.Search.{Parts, closing, lent}
-use Rattle.search.specs.Known.{open_at, Knows, Ranged}
+use Rattle.refusals.specs.Refusals.{carry_refusal_in}
+use Rattle.search.specs.Search.{Seen, closing, seen}
+use Rattle.search.specs.Known.{Knows}
+use Rattle.search.specs.declared.Closable.TheVariants.{Only}
+use Rattle.search.specs.declared.Known.{Known}
 use Rattle.known.specs.After.{carried_parts}
-use Rattle.search.proofs.Stored.{ranged_set}
-use Rattle.known.proofs.Handing.{Goes, goes_first, goes_opened, goes_some, Handed, goes_by, goes_known, on_taker, on_knows, on_handed, handed_ends, handed_goes, open_same}
+use Rattle.known.proofs.Handing.{Goes, goes_first, goes_opened, goes_some, Handed, goes_by, goes_known, on_taker, on_knows, on_handed, handed_ends, handed_goes}
 use Rattle.known.proofs.carry_on.Goals as goal
-use Rattle.known.proofs.carry_on.Goals.{then-can_carry+else-closes_now, else-can_carry, else-loop-q-test, then-loop-q-test+then-k-n}
+use Rattle.known.proofs.carry_on.Goals.{then-can_carry+else-closes_now, else-can_carry, then-loop-q-test+else-k-n, else-loop-q-test}
 
--- where the pair q can carry, it has carried once more, and r is whether t can be closed by it, as `closes_now` says
-carries : (T : Tables) → Fits T → (w : Parts) (order l l1 l2 : List ℕ) (t k q : ℕ) (c c' : List ℕ) (r : Bool) → Goes T w order l t k q c → q < 256
-    → eqb (carry_refusal_in T w.cast c t (q / 16) (q % 16)) 0 ≡ true
-    → (c' ≡ set c (t * 16 + q % 16) (cond (member (cell 0 c t (q % 16)) (q / 16)) (cell 0 c t (q % 16)) (adding (cell 0 c t (q % 16)) (q / 16)))) × (t * 16 + q % 16 < length c)
-    → (l1 ≡ set l (q % 16) t) × (q % 16 < length l)
-    → (q % 16 < site_count T → Knows T (carried_parts w c') order l1 → Knows T (carried_parts w c') order l2 × (r ≡ eqb (closing T (carried_parts w c') t (q % 16)) 0))
-    → Handed T w order l2 t k q c' × (r ≡ eqb (closing T (carried_parts w c') t (q % 16)) 0)
-carries T fits w order l l1 l2 t k q c c' r g h z hand put asked =
-    let at = on_taker T fits w order l t k q c g h z hand.1 c' hand.0 in
-    let new = on_knows T fits w order l t k q c g h z hand.1 c' hand.0 l1 put.0 put.1 in
-    let now = asked at new in
-    (on_handed T fits w order l t k q c g h z hand.1 c' hand.0 l2 now.0, now.1)
+-- where the pair q can carry, it has carried once more, and r is whether t can be closed by it, as `closes_now` says; from w on only the votes carried have changed
+module _ (T : Tables) (fits : Fits T) (w v : Parts) (votes : v ≡ with_votes w v.carried) (order : List ℕ) (l m : Known) (t k q : ℕ) (c : List ℕ) (r : Bool) where
+  carries : Goes T (seen w) order l t k q v.carried → q < 256
+      → eqb (carry_refusal_in T v.cast v.carried t (q / 16) (q % 16)) 0 ≡ true
+      → c ≡ set v.carried (t * 16 + q % 16) (cond (member (cell 0 v.carried t (q % 16)) (q / 16)) (cell 0 v.carried t (q % 16)) (adding (cell 0 v.carried t (q % 16)) (q / 16)))
+      → length c ≡ 2048 → q % 16 < length l.closable
+      → (q % 16 < site_count T → Knows T (seen (with_votes v c)) order (record l { closable = set l.closable (q % 16) (Only t) })
+      → Knows T (seen (with_votes v c)) order m × (r ≡ eqb (closing T (seen (with_votes v c)) t (q % 16)) 0))
+      → Handed T (seen w) order m t k q c × (r ≡ eqb (closing T (carried_parts (seen w) c) t (q % 16)) 0)
+  carries g h z hand long b asked =
+      let same = ap (λ (u : Parts). carried_parts (seen u) c) votes in
+      let room : t * 16 + q % 16 < length v.carried = omega (arith, g.handing.txn, fits.txns, simp length-set at (ap length hand)) in
+      let y = ap (λ (u : Parts). eqb (carry_refusal_in T u.cast v.carried t (q / 16) (q % 16)) 0) (sym votes) ∙ z in
+      let now = asked (on_taker T fits (seen w) order l t k q v.carried g h y room c hand) (rw same (on_knows T fits (seen w) order l t k q v.carried g h y room c hand b)) in
+      (on_handed T fits (seen w) order l t k q v.carried g h y room c hand m (rw same at now.0), now.1 ∙ ap (λ (u : Seen). eqb (closing T u t (q % 16)) 0) same)
 
 pub loop-q-init : goal.loop-q-init
-loop-q-init c = (omega arith, c.requires.laid.1, refl, λ T from to p k e. goes_first T p.fits _ _ _ _ from to k e)
+loop-q-init c = (omega arith, c.requires.laid.1, refl, refl, λ from to p k e. goes_first c.args.plan.now.tables p.fits _ _ c.args.known.now c.args.t from to k e)
 
 pub returns-then-closes_now-clause-carried : goal.returns-then-closes_now-clause-carried
-returns-then-closes_now-clause-carried c T from to p k e =
+returns-then-closes_now-clause-carried c from to p k e =
     let a = c.args in
     let b = c.loop-q in
-    let w = lent a.numbers.now a.flags.now a.marks.now a.carried.now in
-    let told = c.closes_now.new.known in
-    let put = c.put-then-closes_now.ensures in
-    let opens : open_at told ≡ open_at a.known.now = open_same b.known c.put.new.known told (b.q % 16) a.t (omega arith) c.put.ensures.0 c.closes_now.ensures.by_index ∙ b.invariant.2 in
-    let x = (carries T p.fits w a.order.now b.known c.put.new.known told a.t b.k b.q b.carried c.hand.new.carried c.closes_now.result (b.invariant.3 T from to p k e) c.loop-q-test.true
-    (sym (c.can_carry.ensures T p) ∙ c.if-can_carry.true) c.hand.ensures c.put.ensures (λ at new. c.closes_now.ensures.knows T p (omega (arith, p.sites, at)) new)).0 in (
+    let T = a.plan.now.tables in
+    let w = seen a.w.now in
+    let kept = c.closes_now.ensures.kept in
+    let x = (carries T p.fits a.w.now b.w b.invariant.3 (codes a.order.now) b.known c.closes_now.new.known a.t b.k b.q c.hand.new.carried c.closes_now.result
+    (b.invariant.4 from to p k e) c.loop-q-test.true (sym (c.can_carry.ensures p) ∙ c.if-can_carry.true)
+    c.hand.ensures c.hand.array_long.6 (omega arith) (λ at new. c.closes_now.ensures.knows p (rw p.sites at) new)).0 in (
       x.carried,
-      (handed_ends T p.fits w _ told _ _ _ _ x _ put.0 put.1 (λ i h y. goes_opened T p.fits w _ _ _ from to k e i (rw opens at h) y), λ _. omega arith),
+      (handed_ends T p.fits w (codes a.order.now) c.closes_now.new.known a.t b.k b.q c.hand.new.carried x (omega (arith, ap (λ (l : Known). length l.passed) kept)) (λ i h y. goes_opened T p.fits w (codes a.order.now) a.known.now a.t from to k e i (omega (arith, ap (λ (l : Known). l.open) kept, b.invariant.2)) y), λ _. omega arith),
     )
 
 pub loop-q-preserved : goal.loop-q-preserved
 loop-q-preserved c =
     let a = c.args in
     let b = c.loop-q in
-    let first = lent a.numbers.now a.flags.now a.marks.now a.carried.now in
+    let T = a.plan.now.tables in
     elim c.if-can_carry.branch [
       | then-can_carry+else-closes_now w ↦
           let told = w.closes_now.new.known in
-          let put = w.put-then-can_carry.ensures in
-          let opens : open_at told ≡ open_at a.known.now = open_same b.known w.put.new.known told (b.q % 16) a.t (omega arith) w.put.ensures.0 w.closes_now.ensures.by_index ∙ b.invariant.2 in
-          rw (w.carried-is, w.known-is, w.k-is) (
-            omega (arith, b.invariant.0, c.if-k-n.false),
-            subst Ranged (sym put.0) (ranged_set told _ _ w.closes_now.ensures.ranged (inl (omega arith))),
-            subst (λ l. open_at l ≡ _) (sym put.0) (get_or-set_other told (b.q % 16) 208 128 0 (λ q. absurd (omega arith)) ∙ opens),
-            λ T from to p k e.
-                let x = carries T p.fits first a.order.now b.known w.put.new.known told a.t b.k b.q b.carried w.hand.new.carried w.closes_now.result (b.invariant.3 T from to p k e) c.loop-q-test.true
-                (sym (c.can_carry.ensures T p) ∙ w.if-can_carry.true) w.hand.ensures w.put.ensures (λ at new. w.closes_now.ensures.knows T p (omega (arith, p.sites, at)) new) in
-                handed_goes T p.fits first _ told _ _ _ _ x.0 _ put.0 put.1 (sym x.1 ∙ w.if-closes_now.false),
+          let kept = w.closes_now.ensures.kept in
+          rw (w.w-is, w.known-is, w.k-is) (
+            omega arith,
+            record { top = w.closes_now.ensures.ranged.top; next = w.closes_now.ensures.ranged.next },
+            ap (λ (l : Known). l.open) kept ∙ b.invariant.2,
+            ap (λ (v : Parts). with_votes v w.hand.new.carried) b.invariant.3,
+            λ from to p k e.
+                let x = carries T p.fits a.w.now b.w b.invariant.3 (codes a.order.now) b.known told a.t b.k b.q w.hand.new.carried w.closes_now.result
+                (b.invariant.4 from to p k e) c.loop-q-test.true (sym (c.can_carry.ensures p) ∙ w.if-can_carry.true)
+                w.hand.ensures w.hand.array_long.6 (omega arith) (λ at new. w.closes_now.ensures.knows p (rw p.sites at) new) in
+                handed_goes T p.fits (seen a.w.now) (codes a.order.now) told a.t b.k b.q w.hand.new.carried x.0 (sym x.1 ∙ w.if-closes_now.false),
           )
       | else-can_carry w ↦
-          rw (w.carried-is, w.known-is, w.k-is) (
+          rw (w.w-is, w.known-is, w.k-is) (
             b.invariant.0,
             b.invariant.1,
             b.invariant.2,
-            λ T from to p k e. goes_by T p.fits _ _ _ _ _ _ _ (b.invariant.3 T from to p k e) (sym (c.can_carry.ensures T p) ∙ w.if-can_carry.false),
+            b.invariant.3,
+            λ from to p k e. goes_by T p.fits _ _ _ _ _ _ _ (b.invariant.4 from to p k e) (ap (λ (v : Parts). eqb (carry_refusal_in T v.cast b.w.carried a.t (b.q / 16) (b.q % 16)) 0) (sym b.invariant.3) ∙ sym (c.can_carry.ensures p) ∙ w.if-can_carry.false),
           )
     ]
 
 pub returns-clause-carried : goal.returns-clause-carried
-returns-clause-carried c T from to p k e =
+returns-clause-carried c from to p k e =
     let b = c.loop-q in
-    let put = c.put-2.ensures in
-    let g = b.invariant.3 T from to p k e in (
+    let g = b.invariant.4 from to p k e in (
       g.carried,
       (
-        goes_known T p.fits _ _ _ _ _ _ _ g _ put.0 put.1 (λ i h y. goes_opened T p.fits _ _ _ _ from to k e i (rw b.invariant.2 at h) y),
+        goes_known _ p.fits _ _ _ _ _ _ _ g (omega arith) (λ i h y. goes_opened _ p.fits _ _ _ _ from to k e i (rw (← b.invariant.2) h) y),
         λ m. elim c.loop-q-test.branch [
-          | else-loop-q-test w ↦ goes_some T p.fits _ _ _ _ from to k e _ _ _ _ w.loop-q-test.false g
-          | then-loop-q-test+then-k-n w ↦ omega (arith, w.if-k-n.true)
+          | then-loop-q-test+else-k-n w ↦ omega (arith, w.if-k-n.false)
+          | else-loop-q-test w ↦ goes_some _ p.fits _ _ _ _ from to k e _ _ _ _ w.loop-q-test.false g
         ],
       ),
     )

@@ -1,25 +1,21 @@
-use Prim.Native.Nat.{◌<◌}
-use mathlib.Core.Path.{◌≡◌, refl}
-use borrow.Author.Tests.{lt-ltb, le-ltb}
-use Rattle.bounded.specs.Bounded.{first_below}
-use Rattle.bounded.proofs.Laws.{least_up, least_stop}
+-- `lines::verdict_of` meets its contract. What is found is the verdict of the lowest site that has one.
+use Rattle.std.proofs.Common.{ℕ, arith, rules, not, eqb, sym, ap, ◌∙◌}
+use borrow.Author.Tests.{tests}
+use Rattle.std.specs.Option.{unwrap_or}
+use Rattle.std.proofs.lemmas.Iterator.{YieldsList-from_range, YieldsList-from_map}
+use Rattle.std.proofs.lemmas.Iterator.Adapters.{option_map_id}
+use Rattle.std.proofs.lemmas.Iterator.Search.{find_from_yields_List}
+use Rattle.parts.specs.Cells.{cell}
 use Rattle.search.specs.Search.{nowhere}
-use native.Mathlib.Omega.{arith}
-use borrow.Author.Rules.{rules}
 use Rattle.lines.specs.Lines.{verdict_in}
+use Rattle.lines.proofs.Lowest.{lowest}
 use Rattle.lines.proofs.verdict_of.Goals as goal
-
-pub loop-s-init : goal.loop-s-init
-unfolding first_below
-loop-s-init c = (search rules, refl)
-
-pub returns-then-v-gt0 : goal.returns-then-v-gt0
-unfolding verdict_in
-returns-then-v-gt0 c = let l : c.loop-s.s < nowhere = omega arith in rw (least_stop _ _ _ _ c.loop-s-test.true c.requires.0 c.loop-s.invariant.1 (lt-ltb _ _ c.if-v-gt0.true), lt-ltb _ _ l)
-
-pub loop-s-preserved : goal.loop-s-preserved
-loop-s-preserved c = (search rules, least_up _ _ _ c.loop-s.invariant.1 (le-ltb _ _ c.if-v-gt0.false))
 
 pub returns : goal.returns
 unfolding verdict_in
-returns c = let z : c.loop-s.s ≡ c.args.n = omega arith in rw (rw z at c.loop-s.invariant.1)
+returns c =
+    let value : ℕ → ℕ = λ s. cell 0 c.args.closed.now c.args.t s in
+    let found = find_from_yields_List (λ v. not (eqb v 0)) _ _ c.find.result c.find.ensures.ran
+    (YieldsList-from_map _ value (YieldsList-from_range 0 _ _ c.map.ensures.source (omega arith)) c.map.ensures.closure (λ x r q k. search rules))
+    (λ x b q h. search (rules, tests)) in
+    c.unwrap_or.ensures ∙ ap (λ o. unwrap_or o 0) (sym (option_map_id c.find.result) ∙ found) ∙ lowest value c.args.n nowhere c.requires.0

@@ -1,33 +1,22 @@
 -- `listing::print` meets its contract. Each arm is given the outcome of the reading, and with it the file's listing.
-use mathlib.Core.Path.{sym}
-use lib.Seq.{length-take-le}
+use Rattle.std.proofs.Common.{arith, rules}
 use Rattle.listing.proofs.Read.{cut_in, fine_lists, fine_short, refusal_lists, refusal_low}
-use native.Mathlib.Omega.{arith}
 use Rattle.listing.proofs.print.Goals as goal
 
-pub slice_bounds-read_parts-end : goal.slice_bounds-read_parts-end
-slice_bounds-read_parts-end c = sym (length-take-le _ _ (cut_in _ _ c.cut-c.ensures))
-
-pub slice_bounds-read_parts-count : goal.slice_bounds-read_parts-count
-slice_bounds-read_parts-count c = cut_in _ _ c.cut-c.ensures
-
-pub slice_bounds-read_parts-start : goal.slice_bounds-read_parts-start
-slice_bounds-read_parts-start c = cut_in _ _ c.cut-c.ensures
-
-pub offset-requires : goal.offset-requires
-offset-requires c = let l = refusal_low _ _ _ c.cut-c.ensures c.read_parts-read.ensures _ _ c.in-Refused.is in omega arith
-
-pub slice_bounds-put_listing-count : goal.slice_bounds-put_listing-count
-slice_bounds-put_listing-count c = cut_in _ _ c.cut-c.ensures
-
-pub slice_bounds-put_listing-start : goal.slice_bounds-put_listing-start
-slice_bounds-put_listing-start c = cut_in _ _ c.cut-c.ensures
+pub split_at-requires : goal.split_at-requires
+split_at-requires c = cut_in _ c.cut.ensures
 
 pub put_listing-requires : goal.put_listing-requires
-put_listing-requires c = fine_short _ _ _ c.cut-c.ensures c.read_parts-read.ensures c.in-Fine.is
+put_listing-requires c = let s = c.split_at.ensures in fine_short _ c.cut.ensures s.front s.back c.read_parts-read.ensures c.in-Ok.is
 
-pub returns-in-Refused-clause-wrote : goal.returns-in-Refused-clause-wrote
-returns-in-Refused-clause-wrote c = rw (refusal_lists _ _ _ c.cut-c.ensures c.read_parts-read.ensures _ _ c.in-Refused.is, ← c.offset.ensures) c.put_line.ensures.wrote
+pub offset-at-requires : goal.offset-at-requires
+offset-at-requires c = let s = c.split_at.ensures in omega (arith, refusal_low _ c.cut.ensures s.front s.back c.read_parts-read.ensures c.in-Err.is)
 
-pub returns-in-Fine-clause-wrote : goal.returns-in-Fine-clause-wrote
-returns-in-Fine-clause-wrote c = rw (fine_lists _ _ _ c.cut-c.ensures c.read_parts-read.ensures c.in-Fine.is) c.put_listing.ensures.wrote
+pub returns-in-Ok-clause-wrote : goal.returns-in-Ok-clause-wrote
+returns-in-Ok-clause-wrote c = let s = c.split_at.ensures in rw (fine_lists _ c.cut.ensures s.front s.back c.read_parts-read.ensures c.in-Ok.is) c.put_listing.ensures.wrote
+
+pub returns-in-Err-clause-wrote : goal.returns-in-Err-clause-wrote
+returns-in-Err-clause-wrote c =
+    let s = c.split_at.ensures in
+    let w = rw (c.from-number.ensures, c.number.ensures, c.offset-at.ensures) at c.line.ensures.wrote in
+    rw (refusal_lists _ c.cut.ensures s.front s.back c.read_parts-read.ensures c.in-Err.is) (search rules)

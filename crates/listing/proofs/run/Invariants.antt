@@ -1,23 +1,10 @@
--- The invariant is where the run stands (`Running`), its state the one that the arrays hold; the measure is what is left of the schedule.
-use Prim.Native.Nat.{◌-◌}
-use lib.ListN.{length}
-use Rattle.machine.specs.Lent.{state_of}
+-- `listing::run` meets its contract. The invariant: the plan is of the state's tables, and where the run stands (`Running`); the measure is what is left of the schedule.
+use Rattle.std.proofs.Common.{◌-◌, length, ◌≡◌}
 use Rattle.listing.proofs.Laws.{Running}
 use Rattle.listing.proofs.run.Given as goal
 
-abbrev pub invariant-loop-tag : goal.invariant-loop-tag
-invariant-loop-tag l =
-    Running
-    l.schedule
-    l.initial.out
-    l.at
-    (state_of l.tables l.initial.numbers l.initial.flags l.initial.marks l.initial.carried)
-    l.out
-    (state_of l.tables l.numbers l.flags l.marks l.carried)
-    l.idle
-    l.next
-    l.i
-    l.pos
+abbrev pub invariant-loop-record : goal.invariant-loop-record
+invariant-loop-record l = (l.plan.tables ≡ l.st.tables) × Running l.schedule l.fn.st l.fn.w l.st l.idle l.w l.i l.at
 
-abbrev pub decreases-loop-tag : goal.decreases-loop-tag
-decreases-loop-tag l = length l.schedule - l.pos
+abbrev pub decreases-loop-record : goal.decreases-loop-record
+decreases-loop-record l = length l.schedule - l.at

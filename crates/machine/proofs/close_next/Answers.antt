@@ -1,21 +1,17 @@
 -- `machine::close_next` meets its contract. CLOSE is one turn, and `after_close` says what is known after it.
-use native.Mathlib.Omega.{arith}
+use Rattle.std.proofs.Common.{arith}
 use Rattle.machine.proofs.Loop.{accepted, closes, turn_closes}
-use Rattle.machine.proofs.Stores.{close_may, close_lent}
+use Rattle.machine.proofs.Stores.{close_may, close_left}
 use Rattle.machine.proofs.close_next.Goals as goal
 
 pub close-requires : goal.close-requires
-close-requires c = let (T, (r, e)) = c.requires.ready in
-    (T, (r.0, close_may T c.args.numbers.now c.args.flags.now c.args.marks.now c.args.carried.now _ c.args.t c.args.s r (accepted _ r.1 e)))
+close-requires c = let (r, e) = c.requires.ready in (r.0, close_may _ _ r _ _ (accepted _ r.1 e))
 
 pub after_close-requires : goal.after_close-requires
-after_close-requires c = let (T, (r, e)) = c.requires.ready in
-    let k = closes _ r.1 e in
-    (omega (arith, k.site, r.0.fits.sites, c.wide.ensures.0), c.requires.ranged)
+after_close-requires c = let (r, e) = c.requires.ready in (omega (arith, (closes _ r.1 e).site, r.0.fits.sites), c.requires.ranged)
 
 pub returns-clause-turns : goal.returns-clause-turns
-returns-clause-turns c = λ T r e k.
-    let may = accepted _ r.1 e in
-    let done = (c.close.ensures.value T r.0).1 in
-    let q = close_lent T c.args.numbers.now _ c.args.flags.now c.args.marks.now _ c.args.carried.now c.args.plan.now c.args.t c.args.s r may done c.close.ensures.s_in_bounds in
-    turn_closes _ r.1 _ _ _ c.args.t c.args.s _ e q (rw c.wide.ensures.0 at c.after_close.ensures.closed) k
+returns-clause-turns c = λ k.
+    let (r, e) = c.requires.ready in
+    let left = close_left _ _ r _ _ (accepted _ r.1 e) in
+    turn_closes _ r.1 _ _ _ _ _ _ e (rw c.close.ensures.1 left) (rw c.from.ensures at c.after_close.ensures.closed) k

@@ -1,26 +1,20 @@
-use mathlib.Core.Bool.{false}
-use native.Mathlib.Omega.{arith}
-use Rattle.layout.proofs.Laws.{portion_length}
+use Rattle.std.proofs.Common.{◌≡◌, length, arith}
+use Rattle.std.proofs.lemmas.List.{length-map}
+use Rattle.order.specs.Order.{code, codes}
 use Rattle.machine.proofs.Loop.{ended_idle, going_first, going_stops, going_ends}
 use Rattle.machine.proofs.take_settle.Goals as goal
 
 pub returns-then-idle : goal.returns-then-idle
-returns-then-idle c = λ T r h. ended_idle _ (h c.if-idle.true)
+returns-then-idle c = λ h. ended_idle _ (h c.if-idle.true)
 
 pub loop-n-init : goal.loop-n-init
-loop-n-init c = (
-  omega arith,
-  c.first_known-known.ensures.ranged,
-  λ T r.
-      going_first _ _ _ r.1
-      (c.first_known-known.ensures.knows T _ c.order_of-order.result (rw r.0.txns at c.order_of-order.ensures) c.order_of-order.type_inv.1.0.1
-      (portion_length false (λ x. x) c.args.flags.now 1024 2048)),
-)
+loop-n-init c =
+    let long : length c.args.w.now.delivered ≡ 2048 = omega arith in
+    let all : length (codes c.order_of-order.result) ≡ 128 = omega (arith, length-map c.order_of-order.result code) in
+    (omega arith, c.first_known-known.ensures.ranged, going_first _ _ _ c.requires.1 (c.first_known-known.ensures.knows _ _ _ c.order_of-order.ensures all long))
 
 pub returns-then-k-eq0 : goal.returns-then-k-eq0
-returns-then-k-eq0 c = λ T r _.
-    let g = c.loop-n.invariant.2 T r in
-    going_stops _ _ _ _ _ g _ _ _ c.loop-n-test.true c.if-k-eq0.true (c.turn-k.ensures.turns T (r.0, g.ok) g.knows)
+returns-then-k-eq0 c = λ _. let g = c.loop-n.invariant.2 in going_stops _ _ _ _ _ g _ _ _ c.loop-n-test.true c.if-k-eq0.true (c.turn-k.ensures.turns g.knows)
 
-pub returns : goal.returns
-returns c = λ T r _. going_ends _ _ _ _ _ (c.loop-n.invariant.2 T r) c.loop-n-test.false
+pub returns-after-loop-n : goal.returns-after-loop-n
+returns-after-loop-n c = λ _. going_ends _ _ _ _ _ c.loop-n.invariant.2 c.loop-n-test.false

@@ -1,17 +1,27 @@
 -- `machine::turn` meets its contract. What comes next is one CLOSE, one DELIVER, or CARRY after CARRY.
-use mathlib.Core.Path.{sym}
-use native.Mathlib.Omega.{arith}
-use Rattle.machine.proofs.Loop.{carries, named_carry, turn_carries}
+use Rattle.std.proofs.Common.{◌≡◌, sym}
+use Rattle.search.specs.Search.{Carry}
+use Rattle.machine.specs.Settle.{todo}
+use Rattle.machine.specs.Lent.{state_of}
+use Rattle.machine.proofs.Loop.{carries, turn_carries}
 use Rattle.machine.proofs.turn.Goals as goal
+use Rattle.machine.proofs.turn.Goals.{In-Some-Carry}
+
+pub deliver_next-requires-clause-ranged : goal.deliver_next-requires-clause-ranged
+deliver_next-requires-clause-ranged c = let a = c.in-Some-Deliver in
+    (c.next_step.ensures.ranged, (c.next_step.ensures.by_index _ _ (rw a.field-0-is at a.is)).0)
+
+-- what comes next
+next : (c : In-Some-Carry) → todo (state_of c.args.plan.now c.args.w.now) ≡ Carry c.in-Some-Carry.t c.in-Some-Carry.field-0-1 c.in-Some-Carry.field-0-2
+next c = let a = c.in-Some-Carry in let (r, k) = c.requires.ready in sym (rw (a.is, a.field-0-is) at (c.next_step.ensures.value r.0 k).0)
 
 pub carry_on-requires-clause-t_bound : goal.carry_on-requires-clause-t_bound
-carry_on-requires-clause-t_bound c = let (T, (r, k)) = c.requires.ready in
-    let next = (c.next_step-next.ensures.result_value T r.0 k).0 in
-    let low = (carries _ r.1 (named_carry (sym next) c.in-Carry.is c.wide-t.ensures.0)).txn in
-    omega (arith, low, r.0.txns)
+carry_on-requires-clause-t_bound c = rw c.from.ensures (carries _ c.requires.ready.0.1 (next (goal.at.carry_on-requires-clause-t_bound c).In-Some-Carry)).txn
 
-pub returns-in-Carry-clause-turns : goal.returns-in-Carry-clause-turns
-returns-in-Carry-clause-turns c = λ T r k.
-    let (next, (knows, _)) = c.next_step-next.ensures.result_value T r.0 k in
-    let g = c.carry_on.ensures.carried T _ _ r.0 knows (named_carry (sym next) c.in-Carry.is c.wide-t.ensures.0) in
-    turn_carries _ r.1 _ _ _ _ (g.1.1 c.requires.ranged.1) g.0 g.1.0
+pub returns-in-Some-Carry-clause-turns : goal.returns-in-Some-Carry-clause-turns
+returns-in-Some-Carry-clause-turns c = λ k.
+    let r = c.requires.ready.0 in
+    let knows = (c.next_step.ensures.value r.0 k).1 in
+    let g = rw c.from.ensures at c.carry_on.ensures.carried in
+    let h = g _ _ r.0 knows (next (goal.at.returns-in-Some-Carry-clause-turns c).In-Some-Carry) in
+    rw c.carry_on.ensures.kept (turn_carries _ r.1 _ _ _ _ (h.1.1 c.requires.ranged.1) h.0 h.1.0)

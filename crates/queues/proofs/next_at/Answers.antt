@@ -1,38 +1,28 @@
-use mathlib.Core.Path.{◌≡◌, refl, sym}
-use Prim.Native.Nat.{◌+◌, ◌<◌}
-use native.Mathlib.Omega.{arith}
-use lib.ListN.{get_or}
+use Rattle.std.proofs.Common.{rules, sym, ◌∙◌, arith, true, false}
 use Rattle.bounded.specs.Bounded.{first_below}
-use Rattle.bounded.proofs.Laws.{first_up}
-use Rattle.plan.specs.Plan.{txns_of}
-use Rattle.layout.specs.Layout.{the_places}
-use Rattle.layout.proofs.Laws.{portion_length}
-use Rattle.layout.specs.Cells.{place_in}
-use Rattle.layout.proofs.Cells.{place_at}
-use Rattle.steps.specs.Kinds.{place}
+use Rattle.bounded.proofs.Truth.{and_put}
 use Rattle.queues.specs.Queue.{next_in}
-use Rattle.queues.proofs.Queue.{place_found, place_nobody}
+use Rattle.queues.proofs.Queue.{found_up, and_left, and_right}
 use Rattle.queues.proofs.next_at.Goals as goal
-use Rattle.queues.proofs.next_at.Goals.{After-wide-at}
-
--- it is one of 128
-index : (c : After-wide-at) → c.wide-at.result < 128
-index c = omega (arith, c.wide-at.ensures.0, c.loop-t-test.true, c.txns-n.ensures, c.requires.laid.txns)
+use Rattle.queues.proofs.next_at.Goals.{then-is_waiting+then-is_sooner, else-is_waiting, else-is_waiting-via-then-is_waiting+else-is_sooner, else-is_waiting-via-else-is_waiting}
 
 pub loop-t-init : goal.loop-t-init
 unfolding next_in first_below
-loop-t-init c = (omega arith, (sym (place_nobody (the_places c.args.numbers.now) (portion_length 0 place c.args.numbers.now 4096 128)), omega arith), λ T p. refl)
+loop-t-init c = search rules
 
 pub loop-t-preserved : goal.loop-t-preserved
 unfolding next_in
-loop-t-preserved c = let l : c.loop-t.t < txns_of c.args.plan.now = omega (arith, c.loop-t-test.true, c.txns-n.ensures) in
-    let q : get_or c.args.numbers.now (4096 + c.wide-at.result) 0
-    ≡ place_in (the_places c.args.numbers.now) c.loop-t.t = rw (← c.wide-at.ensures.0) (sym (place_at c.args.numbers.now c.wide-at.result (index (goal.at.loop-t-preserved c).After-wide-at))) in
-    let d = rw q at c.sooner-found.ensures.t_value in
-    let e = rw q at c.sooner-found.ensures.place_value in (
-      omega (arith, c.loop-t-test.true),
-      place_found (the_places c.args.numbers.now) c.is_waiting-passes.result c.loop-t.t c.loop-t.found _ d e (omega arith) c.loop-t.invariant.1,
-      λ T p.
-          let w = rw c.wide-at.ensures.0 at (c.is_waiting-passes.ensures T p (omega (arith, c.wide-at.ensures.0, p.txns))) in
-          rw (first_up, ← c.loop-t.invariant.2 T p, ← c.loop-t.invariant.1.0, ← w) d,
-    )
+loop-t-preserved c = elim c.if-is_waiting.branch [
+  | then-is_waiting+then-is_sooner w ↦ (
+    rw w.found-is (omega arith),
+    λ P. rw w.found-is
+        (found_up _ _ _ _ _ true (c.loop-t.invariant.1 P) (and_put _ _ (sym (rw c.from.ensures at (c.is_waiting.ensures P (omega arith))) ∙ w.if-is_waiting.true) (sym w.is_sooner.ensures ∙ w.if-is_sooner.true))),
+  )
+  | else-is_waiting w ↦ (
+    rw w.found-is c.loop-t.invariant.0,
+    λ P. rw w.found-is (found_up _ _ _ _ _ false (c.loop-t.invariant.1 P) (elim w.else-is_waiting.branch [
+      | else-is_waiting-via-then-is_waiting+else-is_sooner u ↦ and_right _ _ (sym u.is_sooner.ensures ∙ u.if-is_sooner.false)
+      | else-is_waiting-via-else-is_waiting u ↦ and_left _ _ (sym (rw c.from.ensures at (c.is_waiting.ensures P (omega arith))) ∙ u.if-is_waiting.false)
+    ])),
+  )
+]

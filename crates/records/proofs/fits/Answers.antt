@@ -1,20 +1,19 @@
--- At each `return` the tests that led there say which case of `fits` holds.
-use borrow.Author.Tests.{eq-eqb, ne_eqb}
+-- Each arm by its rule.
 use Rattle.records.specs.Rule.{fits}
 use Rattle.records.proofs.fits.Goals as goal
 
-pub returns-then-rule : goal.returns-then-rule
+pub returns-in-NoTag : goal.returns-in-NoTag
 unfolding fits
-returns-then-rule c = simp (← c.rule-rule.ensures, eq-eqb _ _ c.if-rule.true)
+returns-in-NoTag c = rw (← c.length_rule.ensures, c.in-NoTag.is)
 
-pub returns-then-rule-2 : goal.returns-then-rule-2
+pub returns-in-Exact : goal.returns-in-Exact
 unfolding fits
-returns-then-rule-2 c = rw (← c.rule-rule.ensures, ne_eqb _ _ c.if-rule.false, eq-eqb _ _ c.if-rule-2.true) c.values_fit.ensures
+returns-in-Exact c = rw (← c.length_rule.ensures, c.in-Exact.is) (rw c.from.ensures)
 
-pub returns-then-rule-3 : goal.returns-then-rule-3
+pub returns-in-Values : goal.returns-in-Values
 unfolding fits
-returns-then-rule-3 c = rw (← c.rule-rule.ensures, ne_eqb _ _ c.if-rule.false, ne_eqb _ _ c.if-rule-2.false, eq-eqb _ _ c.if-rule-3.true) c.pairs_fit.ensures
+returns-in-Values c = rw (← c.length_rule.ensures, c.in-Values.is) c.values_fit.ensures
 
-pub returns : goal.returns
+pub returns-in-Pairs : goal.returns-in-Pairs
 unfolding fits
-returns c = rw (← c.rule-rule.ensures, ne_eqb _ _ c.if-rule.false, ne_eqb _ _ c.if-rule-2.false, ne_eqb _ _ c.if-rule-3.false)
+returns-in-Pairs c = rw (← c.length_rule.ensures, c.in-Pairs.is) c.pairs_fit.ensures

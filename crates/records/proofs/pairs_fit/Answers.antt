@@ -1,8 +1,6 @@
 -- At each `return` the tests that led there say which case of `pairs_fit` holds; past the end both counts are 0.
-use Prim.Native.Nat.{◌+◌}
-use mathlib.Core.Path.{◌≡◌}
-use native.Mathlib.Omega.{arith}
-use lib.ListN.{get_or, get_or-eq_default}
+use Rattle.std.proofs.Common.{◌≡◌, ◌+◌, arith, get_or}
+use lib.ListN.{get_or-eq_default}
 use borrow.Author.Tests.{le-leb, lt-leb}
 use Rattle.records.specs.Rule.{pairs_fit}
 use Rattle.records.proofs.pairs_fit.Goals as goal
@@ -20,8 +18,8 @@ returns-then-s-start c = let a = c.args in
 
 pub returns-then-len-r : goal.returns-then-len-r
 unfolding pairs_fit
-returns-then-len-r c = simp (le-leb _ _ c.if-len-lt2.false, lt-leb _ _ c.if-len-r.true)
+returns-then-len-r c = simp (← c.from-r.ensures, le-leb _ _ c.if-len-lt2.false, lt-leb _ _ c.if-len-r.true)
 
 pub returns : goal.returns
 unfolding pairs_fit
-returns c = simp (le-leb _ _ c.if-len-lt2.false, le-leb _ _ c.if-len-r.false, c.byte_at-w.ensures)
+returns c = simp (← c.from-r.ensures, le-leb _ _ c.if-len-lt2.false, le-leb _ _ c.if-len-r.false, c.byte_at.ensures, c.from-w.ensures)

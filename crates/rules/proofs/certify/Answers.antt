@@ -1,53 +1,26 @@
-use mathlib.Core.Path.{◌≡◌, sym, ◌∙◌}
-use Prim.Native.Nat.{◌-◌, ◌<◌}
-use native.Mathlib.Omega.{arith}
-use Rattle.bounded.specs.Bounded.{all_below}
-use Rattle.bounded.proofs.Laws.{all_down}
-use Rattle.tables.specs.Lists.{row_at}
+-- `rules::certify` meets its contract. The chain asks each of the reads, as `certify_in` does.
+use Rattle.std.proofs.Common.{arith, rules, ◌≡◌, ◌∙◌, refl, sym, ap, cond}
+use Rattle.std.proofs.lemmas.Iterator.{YieldsList-from_range}
+use Rattle.std.proofs.lemmas.Iterator.Search.{all_from_yields_List}
+use Rattle.bounded.proofs.Ranges.{all_in_range}
+use Rattle.tables.specs.Lists.{read_count}
 use Rattle.tables.specs.Sites.{site_keys}
-use Rattle.tables.specs.declared.Tables.{Tables}
-use Rattle.plan.specs.Plan.{Plan}
+use Rattle.plan.specs.Planned.{Planned}
 use Rattle.rules.specs.Votes.{certify_in}
 use Rattle.rules.proofs.certify.Goals as goal
-use Rattle.rules.proofs.certify.Goals.{After-has_key, In-loop-i, Start}
+use Rattle.rules.proofs.certify.Goals.{After-all-is_yes}
 
--- t is one of 128, and of the tables' own
-txn : (c : Start) → (c.args.t < 128) × ((T : Tables) → Plan T c.args.plan.now → c.args.t < T.txns)
-txn c = (omega (arith, c.requires.t_bound.0, c.requires.laid.txns), λ T p. omega (arith, c.requires.t_bound.0, p.txns))
-
--- it reads eight at most
-few : (c : In-loop-i) → c.loop-i.i - 1 < 8
-few c = omega (arith, c.loop-i.invariant.0, c.loop-i-test.true, c.requires.laid.reads c.args.t c.requires.t_bound.0)
-
--- what certify_in says of the key looked at is what the code asks
-asked : (c : After-has_key) (T : Tables) → Plan T c.args.plan.now
-    → (row_at T.reads c.args.t (c.loop-i.i - 1) ≡ c.read_key-k.result) × (site_keys T c.args.s ≡ c.site_set-m.result)
-asked c T p = (
-  sym (c.read_key-k.ensures ∙ p.read_keys _ _ ((txn c.before.before.before.before.before.before).1 T p) (few c.before.before)),
-  sym (c.site_set-m.ensures ∙ p.site_sets _ c.requires.t_bound.1),
-)
-
-pub loop-i-preserved-then-is_current : goal.loop-i-preserved-then-is_current
+asked : (c : After-all-is_yes) → Planned c.args.plan.now
+    → certify_in c.args.w.now.versions c.args.w.now.readversions c.args.w.now.recorded c.args.plan.now.tables.reads (read_count c.args.plan.now.tables c.args.t) c.args.t c.args.s (site_keys c.args.plan.now.tables c.args.s)
+    ≡ cond c.all-is_yes.result 1 2
 unfolding certify_in
-loop-i-preserved-then-is_current c = (
-  omega (arith, c.loop-i.invariant.0),
-  λ T p.
-      let (k, m) = asked (goal.at.loop-i-preserved-then-is_current c).After-has_key T p in
-      rw (← c.loop-i.invariant.1 T p, all_down _ _ c.loop-i-test.true, k, m, ← c.has_key.ensures, c.if-has_key.true, ← c.is_current.ensures, c.if-is_current.true),
-)
+asked c p = rw (← p.site_sets c.args.s c.requires.t_bound.1) (ap (λ b. cond b 1 2) (sym (
+    all_from_yields_List _ _ _ _ c.all-is_yes.ensures.ran (YieldsList-from_range 0 c.reads.result (read_count c.args.plan.now.tables c.args.t) refl (omega arith)) (λ x b q h. search rules)
+    ∙ all_in_range (read_count c.args.plan.now.tables c.args.t) _
+    )))
 
-pub returns-then-has_key : goal.returns-then-has_key
-unfolding certify_in
-returns-then-has_key c T p = let (k, m) = asked (goal.at.returns-then-has_key c).After-has_key T p in
-    rw (← c.loop-i.invariant.1 T p, all_down _ _ c.loop-i-test.true, k, m, ← c.has_key.ensures, c.if-has_key.true, ← c.is_current.ensures, c.if-is_current.false)
+pub returns-then-is_yes : goal.returns-then-is_yes
+returns-then-is_yes c p = rw (asked (goal.at.returns-then-is_yes c).After-all-is_yes p, c.if-is_yes.true)
 
-pub loop-i-preserved : goal.loop-i-preserved
-unfolding certify_in
-loop-i-preserved c = (
-  omega (arith, c.loop-i.invariant.0),
-  λ T p. let (k, m) = asked (goal.at.loop-i-preserved c).After-has_key T p in rw (← c.loop-i.invariant.1 T p, all_down _ _ c.loop-i-test.true, k, m, ← c.has_key.ensures, c.if-has_key.false),
-)
-
-pub returns : goal.returns
-unfolding certify_in all_below
-returns c T p = let z : c.loop-i.i ≡ 0 = omega (arith, c.loop-i-test.false) in rw (← c.loop-i.invariant.1 T p, z)
+pub returns-else-is_yes : goal.returns-else-is_yes
+returns-else-is_yes c p = rw (asked (goal.at.returns-else-is_yes c).After-all-is_yes p, c.if-is_yes.false)

@@ -1,61 +1,17 @@
-use mathlib.Core.Path.{◌≡◌, sym, ◌∙◌}
-use Prim.Native.Nat.{◌-◌, ◌<◌}
-use native.Mathlib.Omega.{arith}
-use Rattle.bounded.specs.Bounded.{all_below}
-use Rattle.bounded.proofs.Laws.{all_down}
-use Rattle.tables.specs.Lists.{row_at}
-use Rattle.tables.specs.declared.Tables.{Tables}
-use Rattle.plan.specs.Plan.{Plan}
+-- `rules::is_covered` meets its contract. The chain asks each of the reads, whose key is below 64.
+use Rattle.std.proofs.Common.{arith, rules, ◌∙◌, refl}
+use Rattle.std.proofs.lemmas.Iterator.{YieldsList-from_range}
+use Rattle.std.proofs.lemmas.Iterator.Search.{all_from_yields_List}
+use Rattle.bounded.proofs.Laws.{all_same}
+use Rattle.bounded.proofs.Ranges.{all_in_range}
+use Rattle.tables.specs.Lists.{read_count, read_key}
 use Rattle.rules.specs.Votes.{covered_in}
 use Rattle.rules.proofs.Votes.{covers}
 use Rattle.rules.proofs.is_covered.Goals as goal
-use Rattle.rules.proofs.is_covered.Goals.{After-read_key-k, In-loop-i, Start}
-
--- and of the tables' own
-real : (c : Start) (T : Tables) → Plan T c.args.plan.now → c.args.t < T.txns
-real c T p = omega (arith, c.requires.t_bound, p.txns)
-
--- it reads eight at most
-few : (c : In-loop-i) → c.loop-i.i - 1 < 8
-few c = omega (arith, c.loop-i.invariant.0, c.loop-i-test.true, c.requires.laid.reads c.args.t c.requires.t_bound)
-
--- the key looked at
-key : (c : After-read_key-k) (T : Tables) → Plan T c.args.plan.now → row_at T.reads c.args.t (c.loop-i.i - 1) ≡ c.read_key-k.result
-key c T p = sym (c.read_key-k.ensures ∙ p.read_keys _ _ (real c.before.before.before.before T p) (few c.before))
-
--- and is below 64
-low : (c : After-read_key-k) → c.read_key-k.result < 64
-low c = omega (arith, c.read_key-k.ensures, c.requires.laid.read_low c.args.t (c.loop-i.i - 1) c.requires.t_bound (omega (arith, c.loop-i.invariant.0, c.loop-i-test.true)))
-
-pub loop-i-preserved : goal.loop-i-preserved
-unfolding covered_in
-loop-i-preserved c = (
-  omega (arith, c.loop-i.invariant.0),
-  λ T own carried s p h. rw (
-    ← c.loop-i.invariant.1 T own carried s p h,
-    all_down _ _ c.loop-i-test.true,
-    key (goal.at.loop-i-preserved c).After-read_key-k T p,
-    ← covers T c.args.plan.now c.args.held own carried s c.read_key-k.result p h (low (goal.at.loop-i-preserved c).After-read_key-k),
-    ← c.wide.ensures.0,
-    ← c.holders.ensures,
-    ← c.meet.ensures,
-    c.if-meet.true,
-  ),
-)
-
-pub returns-in-loop-i : goal.returns-in-loop-i
-unfolding covered_in
-returns-in-loop-i c T own carried s p h = rw (
-  ← c.loop-i.invariant.1 T own carried s p h,
-  all_down _ _ c.loop-i-test.true,
-  key (goal.at.returns-in-loop-i c).After-read_key-k T p,
-  ← covers T c.args.plan.now c.args.held own carried s c.read_key-k.result p h (low (goal.at.returns-in-loop-i c).After-read_key-k),
-  ← c.wide.ensures.0,
-  ← c.holders.ensures,
-  ← c.meet.ensures,
-  c.if-meet.false,
-)
 
 pub returns : goal.returns
-unfolding covered_in all_below
-returns c T own carried s p h = let z : c.loop-i.i ≡ 0 = omega (arith, c.loop-i-test.false) in rw (← c.loop-i.invariant.1 T own carried s p h, z)
+unfolding covered_in
+returns c own carried s p held =
+    all_from_yields_List _ _ _ _ c.all.ensures.ran (YieldsList-from_range 0 c.reads.result (read_count c.args.plan.now.tables c.args.t) refl (omega arith)) (λ x b q h. search rules)
+    ∙ all_in_range (read_count c.args.plan.now.tables c.args.t) _
+    ∙ all_same _ _ _ (λ i l. covers c.args.plan.now c.args.held own carried s (read_key c.args.plan.now.tables c.args.t i) p held (c.requires.laid.read_low c.args.t i c.requires.t_bound l))

@@ -1,17 +1,11 @@
-use mathlib.Core.Path.{◌≡◌}
-use Prim.Native.Nat.{◌-◌}
-use native.Mathlib.Omega.{arith}
-use Rattle.bounded.specs.Bounded.{all_below}
-use Rattle.bounded.proofs.Laws.{all_down}
-use Rattle.layout.proofs.Cells.{recorded_at}
+-- `rules::is_recorded` meets its contract. The chain asks each of the n reads.
+use Rattle.std.proofs.Common.{arith, rules, ◌∙◌, refl}
+use Rattle.std.proofs.lemmas.Iterator.{YieldsList-from_range}
+use Rattle.std.proofs.lemmas.Iterator.Search.{all_from_yields_List}
+use Rattle.bounded.proofs.Ranges.{all_in_range}
 use Rattle.rules.proofs.is_recorded.Goals as goal
 
-pub loop-i-preserved : goal.loop-i-preserved
-loop-i-preserved c = (omega arith, rw (← c.loop-i.invariant.1, all_down _ _ c.loop-i-test.true, recorded_at c.args.flags.now c.args.t (c.loop-i.i - 1) c.requires.0 (omega arith), c.if-flags-t.true))
-
-pub returns-in-loop-i : goal.returns-in-loop-i
-returns-in-loop-i c = rw (← c.loop-i.invariant.1, all_down _ _ c.loop-i-test.true, recorded_at c.args.flags.now c.args.t (c.loop-i.i - 1) c.requires.0 (omega arith), c.if-flags-t.false)
-
 pub returns : goal.returns
-unfolding all_below
-returns c = let z : c.loop-i.i ≡ 0 = omega arith in rw (← c.loop-i.invariant.1, z)
+returns c =
+    all_from_yields_List _ _ _ _ c.all.ensures.ran (YieldsList-from_range 0 c.args.n c.args.n refl (omega arith)) (λ x b q h. search rules)
+    ∙ all_in_range c.args.n _

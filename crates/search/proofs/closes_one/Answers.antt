@@ -1,22 +1,45 @@
--- `search::closes_one` meets its contract. Where the code is not any, no other can be closed.
-use mathlib.Core.Path.{sym}
-use native.Mathlib.Omega.{arith}
-use Rattle.layout.specs.Layout.{the_closed}
+-- `search::closes_one` meets its contract. Where only one may be closed, no other can.
+use Rattle.std.proofs.Common.{◌≡◌, ◌<◌, sym, ap, ◌∙◌, eqb, length, lt-ltb, le-ltb, arith, rules}
+use Rattle.bounded.proofs.Truth.{clash}
+use Rattle.order.specs.Order.{codes}
+use Rattle.parts.specs.Cells.{nobody}
+use Rattle.search.specs.Search.{seen, closing}
 use Rattle.search.proofs.Tried.{code_closes, code_shut}
-use Rattle.search.proofs.Closing.{head_stands, code_past}
-use Rattle.search.specs.Search.{lent}
+use Rattle.search.proofs.Closing.{head_stands, code_past, only_past}
 use Rattle.search.proofs.closes_one.Goals as goal
+use Rattle.search.proofs.closes_one.Goals.{then-t-plan, else-t-plan}
 
-pub returns-then-can_close : goal.returns-then-can_close
-returns-then-can_close c T p l k below above starts = let a = c.args in
-    let h = head_stands T a.plan.now a.numbers.now a.flags.now (the_closed a.marks.now) a.order.now a.s a.p a.q _ p c.requires.ordered below above starts c.head_at.ensures.0 in
-    sym (code_closes T p.fits (lent a.numbers.now a.flags.now a.marks.now a.carried.now) a.s a.code c.if-code-eq129.false k (rw (c.can_close.ensures T p l h) at c.if-can_close.true))
+pub returns-in-Nobody-clause-value : goal.returns-in-Nobody-clause-value
+returns-in-Nobody-clause-value c p l k below above starts = let a = c.args in
+    sym (code_past a.plan.now.tables p.fits (seen a.w.now) a.s nobody p.fits.txns (λ e. absurd (omega (arith, e))) (rw c.in-Nobody.is at k))
 
-pub returns-else-can_close : goal.returns-else-can_close
-returns-else-can_close c T p l k below above starts = let a = c.args in
-    let h = head_stands T a.plan.now a.numbers.now a.flags.now (the_closed a.marks.now) a.order.now a.s a.p a.q _ p c.requires.ordered below above starts c.head_at.ensures.0 in
-    sym (code_shut T p.fits (lent a.numbers.now a.flags.now a.marks.now a.carried.now) a.s a.code c.if-code-eq129.false k (rw (c.can_close.ensures T p l h) at c.if-can_close.false))
+pub returns-then-closes-clause-value : goal.returns-then-closes-clause-value
+returns-then-closes-clause-value c p l k below above starts = let a = c.args in let t = c.in-Only.t in
+    elim c.if-t-plan.branch [
+      | then-t-plan w ↦
+          let low : t < nobody = omega (arith, w.if-t-plan.true, p.fits.txns) in
+          let long : length a.w.now.delivered ≡ 2048 = search rules in
+          let h = head_stands a.plan.now a.w.now (codes a.order.now) a.s a.p a.q c.head_at-head.result p long c.requires.ordered below above starts c.head_at-head.ensures.value in
+          c.from-then-closes.ensures
+          ∙ sym (code_closes a.plan.now.tables p.fits (seen a.w.now) a.s t (λ e. absurd (omega (arith, e))) (rw (c.in-Only.is, lt-ltb t nobody low) at k)
+          (ap (λ u. eqb (closing a.plan.now.tables (seen a.w.now) u a.s) 0) (sym w.from.ensures) ∙ sym (w.can_close-closes.ensures p l h) ∙ sym w.closes-is ∙ c.if-closes.true))
+      | else-t-plan w ↦ clash c.if-closes.true (w.closes-is ∙ le-ltb _ _ w.if-t-plan.false)
+    ]
 
-pub returns-else-code-txns : goal.returns-else-code-txns
-returns-else-code-txns c T p l k below above starts = let a = c.args in
-    sym (code_past T p.fits (lent a.numbers.now a.flags.now a.marks.now a.carried.now) a.s a.code (omega (arith, c.if-code-txns.false, c.txns.ensures, p.txns)) c.if-code-eq129.false k)
+pub returns-else-closes-clause-value : goal.returns-else-closes-clause-value
+returns-else-closes-clause-value c p l k below above starts = let a = c.args in let t = c.in-Only.t in
+    elim c.if-t-plan.branch [
+      | then-t-plan w ↦
+          let low : t < nobody = omega (arith, w.if-t-plan.true, p.fits.txns) in
+          let long : length a.w.now.delivered ≡ 2048 = search rules in
+          let h = head_stands a.plan.now a.w.now (codes a.order.now) a.s a.p a.q c.head_at-head.result p long c.requires.ordered below above starts c.head_at-head.ensures.value in
+          sym (code_shut a.plan.now.tables p.fits (seen a.w.now) a.s t (λ e. absurd (omega (arith, e))) (rw (c.in-Only.is, lt-ltb t nobody low) at k)
+          (ap (λ u. eqb (closing a.plan.now.tables (seen a.w.now) u a.s) 0) (sym w.from.ensures) ∙ sym (w.can_close-closes.ensures p l h) ∙ sym w.closes-is ∙ c.if-closes.false))
+      | else-t-plan w ↦ sym (only_past a.plan.now.tables p.fits (seen a.w.now) a.s t w.if-t-plan.false (rw c.in-Only.is at k))
+    ]
+
+pub returns-in-Anyone-clause-value : goal.returns-in-Anyone-clause-value
+returns-in-Anyone-clause-value c p l k below above starts = let a = c.args in
+    let long : length a.w.now.delivered ≡ 2048 = search rules in
+    c.closes_first.ensures.value p l below above
+    (head_stands a.plan.now a.w.now (codes a.order.now) a.s a.p a.q c.head_at-head.result p long c.requires.ordered below above starts c.head_at-head.ensures.value)

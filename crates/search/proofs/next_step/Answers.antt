@@ -1,68 +1,50 @@
 -- `search::next_step` meets its contract. Each search is answered and keeps what is known, and the first that finds one is taken.
-use Prim.Native.Nat.{◌%◌}
-use mathlib.Core.Path.{refl}
-use native.Mathlib.Omega.{arith}
-use borrow.Author.Tests.{le-ltb, lt-ltb}
-use Rattle.layout.specs.Cells.{nobody}
-use Rattle.search.specs.Search.{nowhere, todo_in, lent}
-use Rattle.search.proofs.Pair.{pair_from, pair_to, carried_pair}
-use Rattle.search.proofs.Carrying.{no_delivery, same_site}
-use Rattle.search.proofs.Entries.{passed_is}
+use Rattle.std.proofs.Common.{◌<◌, refl, lt-ltb}
+use Rattle.parts.specs.Cells.{nobody}
+use Rattle.search.specs.Search.{seen, nowhere, todo_in}
+use Rattle.search.specs.Known.{first_pair}
+use Rattle.search.proofs.Pair.{pair_from, pair_to}
 use Rattle.search.proofs.next_step.Goals as goal
 
-pub returns-then-c-lt2048-clause-result_value : goal.returns-then-c-lt2048-clause-result_value
+pub returns-in-Some-clause-value : goal.returns-in-Some-clause-value
 unfolding todo_in
-returns-then-c-lt2048-clause-result_value c = λ T p k.
-    let g = c.first_closing-c.ensures.knows T p k in
-    let h = g.1.0 c.if-c-lt2048.true in
-    (rw (← h.0, lt-ltb (c.first_closing-c.result % 16) nowhere (omega arith), ← h.1), (g.0, λ s e. absurd (no_delivery _ s refl e)))
+returns-in-Some-clause-value c p k =
+    let g = c.in-Some.ensures.knows p k in
+    (rw (← g.1.0.0, lt-ltb c.in-Some.s nowhere c.in-Some.ensures.bound.1, ← g.1.0.1) refl, g.0)
 
-pub returns-then-s-lt16-clause-result_value : goal.returns-then-s-lt16-clause-result_value
+pub returns-in-Some-first_delivering-clause-value : goal.returns-in-Some-first_delivering-clause-value
 unfolding todo_in
-returns-then-s-lt16-clause-result_value c = λ T p k.
-    let w = lent c.args.numbers.now c.args.flags.now c.args.marks.now c.args.carried.now in
-    let r = c.first_delivering-s.result in
-    let g = c.first_closing-c.ensures.knows T p k in
-    let h = c.first_delivering-s.ensures.knows T w p refl refl refl g.0 in
-    (rw (g.1.1 c.if-c-lt2048.false, ← h.1.0, lt-ltb r nowhere c.if-s-lt16.true), (h.0, λ s e. rw (← same_site r s e) (refl, h.1.1 c.if-s-lt16.true)))
+returns-in-Some-first_delivering-clause-value c p k =
+    let g = c.first_closing.ensures.knows p k in
+    let h = c.in-Some-first_delivering.ensures.knows p g.0 in
+    (rw (g.1.1 (rw c.in_default.is refl), ← h.1.0.0, lt-ltb c.in-Some-first_delivering.s nowhere c.in-Some-first_delivering.ensures.bound.0) refl, h.0)
 
-pub returns-then-t-lt128-clause-result_value : goal.returns-then-t-lt128-clause-result_value
+pub returns-in_err-t-clause-value : goal.returns-in_err-t-clause-value
 unfolding todo_in
-returns-then-t-lt128-clause-result_value c = λ T p k.
-    let w = lent c.args.numbers.now c.args.flags.now c.args.marks.now c.args.carried.now in
-    let r = c.first_carrying-t.result in
-    let l = c.if-t-lt128.true in
-    let g = c.first_closing-c.ensures.knows T p k in
-    let h = c.first_delivering-s.ensures.knows T w p refl refl refl g.0 in
-    let u = c.first_carrying-t.ensures.knows T w p refl refl h.0 in
-    let q = carried_pair T p.fits w.places w.cast w.carried r u.1.0 l in (
+returns-in_err-t-clause-value c p k =
+    let g = c.first_closing.ensures.knows p k in
+    let h = c.first_delivering.ensures.knows p g.0 in
+    let u = c.first_carrying.ensures.knows p h.0 in
+    (rw (c.from_residual.ensures, g.1.1 (rw c.in_default.is refl), h.1.1 (rw c.in_default-first_delivering.is refl), u.1.1 (rw c.in_err-t.was refl)) refl, u.0)
+
+pub returns-clause-value : goal.returns-clause-value
+unfolding todo_in
+returns-clause-value c p k =
+    let T = c.args.plan.now.tables in
+    let w = seen c.args.w.now in
+    let t = c.in_ok-t.t in
+    let g = c.first_closing.ensures.knows p k in
+    let h = c.first_delivering.ensures.knows p g.0 in
+    let u = c.in_ok-t.ensures.knows p h.0 in
+    let q : first_pair T w.cast w.carried t < 256 = rw (← u.1.0.1) c.in_ok-t.ensures.bound.1 in (
       rw (
-        g.1.1 c.if-c-lt2048.false,
-        ← h.1.0,
-        le-ltb c.first_delivering-s.result nowhere c.if-s-lt16.false,
-        ← u.1.0,
-        lt-ltb r nobody l,
-        pair_from T w.cast w.carried r p.fits.sites q,
-        pair_to T w.cast w.carried r p.fits.sites q,
-        ← passed_is _ r l,
-        u.1.1 l,
-      ),
-      (u.0, λ s e. absurd (no_delivery _ s refl e)),
-    )
-
-pub returns-clause-result_value : goal.returns-clause-result_value
-unfolding todo_in
-returns-clause-result_value c = λ T p k.
-    let w = lent c.args.numbers.now c.args.flags.now c.args.marks.now c.args.carried.now in
-    let g = c.first_closing-c.ensures.knows T p k in
-    let h = c.first_delivering-s.ensures.knows T w p refl refl refl g.0 in
-    let u = c.first_carrying-t.ensures.knows T w p refl refl h.0 in (
-      rw (
-        g.1.1 c.if-c-lt2048.false,
-        ← h.1.0,
-        le-ltb c.first_delivering-s.result nowhere c.if-s-lt16.false,
-        ← u.1.0,
-        le-ltb c.first_carrying-t.result nobody c.if-t-lt128.false,
-      ),
-      (u.0, λ s e. absurd (no_delivery _ s refl e)),
+        g.1.1 (rw c.in_default.is refl),
+        h.1.1 (rw c.in_default-first_delivering.is refl),
+        ← u.1.0.0,
+        lt-ltb t nobody c.in_ok-t.ensures.bound.0,
+        pair_from T w.cast w.carried t p.fits.sites q,
+        pair_to T w.cast w.carried t p.fits.sites q,
+        u.1.0.1,
+      ) refl,
+      u.0,
     )

@@ -1,22 +1,13 @@
-use mathlib.Core.Path.{◌≡◌, refl}
-use native.Mathlib.Omega.{arith}
-use borrow.Author.Tests.{le-ltb, lt-ltb}
-use Rattle.bounded.specs.Bounded.{all_below}
-use Rattle.bounded.proofs.Laws.{all_down}
-use Rattle.tables.specs.Lists.{present}
+-- `tables::are_present` meets its contract. The chain tests the keys from the first on, `present` from the last.
+use Rattle.std.proofs.Common.{arith, rules, ◌∙◌, refl, ltb}
+use Rattle.std.proofs.lemmas.Iterator.{YieldsList-from_range}
+use Rattle.std.proofs.lemmas.Iterator.Search.{all_from_yields_List}
+use Rattle.bounded.proofs.Ranges.{all_in_range}
+use Rattle.tables.specs.Lists.{row_at, present}
 use Rattle.tables.proofs.are_present.Goals as goal
 
-pub loop-i-init : goal.loop-i-init
-loop-i-init c = (omega arith, refl)
-
-pub returns-then-keys-row : goal.returns-then-keys-row
-unfolding present
-returns-then-keys-row c = rw (← c.loop-i.invariant.1, all_down _ _ c.loop-i-test.true, le-ltb _ _ c.if-keys-row.true)
-
-pub loop-i-preserved : goal.loop-i-preserved
-unfolding present
-loop-i-preserved c = (omega arith, rw (← c.loop-i.invariant.1, all_down _ _ c.loop-i-test.true, lt-ltb _ _ c.if-keys-row.false))
-
 pub returns : goal.returns
-unfolding present all_below
-returns c = let z : c.loop-i.i ≡ 0 = omega arith in rw (← c.loop-i.invariant.1, z)
+unfolding present
+returns c =
+    all_from_yields_List (λ i. ltb (row_at c.args.row.now c.args.t i) c.args.keys) _ _ _ c.all.ensures.ran (YieldsList-from_range 0 c.args.n c.args.n refl (omega arith)) (λ x b q h. search rules)
+    ∙ all_in_range c.args.n (λ i. ltb (row_at c.args.row.now c.args.t i) c.args.keys)

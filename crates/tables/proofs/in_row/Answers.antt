@@ -1,22 +1,13 @@
-use mathlib.Core.Path.{◌≡◌, refl}
-use native.Mathlib.Omega.{arith}
-use borrow.Author.Tests.{eq-eqb, ne_eqb}
-use Rattle.bounded.specs.Bounded.{any_below}
-use Rattle.bounded.proofs.Laws.{any_down}
-use Rattle.tables.specs.Lists.{in_row}
+-- `tables::in_row` meets its contract. The chain tests the keys from the first on, `in_row` from the last.
+use Rattle.std.proofs.Common.{arith, rules, ◌∙◌, refl, eqb}
+use Rattle.std.proofs.lemmas.Iterator.{YieldsList-from_range}
+use Rattle.std.proofs.lemmas.Iterator.Search.{any_from_yields_List}
+use Rattle.bounded.proofs.Ranges.{any_in_range}
+use Rattle.tables.specs.Lists.{in_row, row_at}
 use Rattle.tables.proofs.in_row.Goals as goal
 
-pub loop-i-init : goal.loop-i-init
-loop-i-init c = (omega arith, refl)
-
-pub returns-then-row-t : goal.returns-then-row-t
-unfolding in_row
-returns-then-row-t c = rw (← c.loop-i.invariant.1, any_down _ _ c.loop-i-test.true, eq-eqb _ _ c.if-row-t.true)
-
-pub loop-i-preserved : goal.loop-i-preserved
-unfolding in_row
-loop-i-preserved c = (omega arith, rw (← c.loop-i.invariant.1, any_down _ _ c.loop-i-test.true, ne_eqb _ _ c.if-row-t.false))
-
 pub returns : goal.returns
-unfolding in_row any_below
-returns c = let z : c.loop-i.i ≡ 0 = omega arith in rw (← c.loop-i.invariant.1, z)
+unfolding in_row
+returns c =
+    any_from_yields_List (λ i. eqb (row_at c.args.row.now c.args.t i) c.args.k) _ _ _ c.any.ensures.ran (YieldsList-from_range 0 c.args.n c.args.n refl (omega arith)) (λ x b q h. search rules)
+    ∙ any_in_range c.args.n (λ i. eqb (row_at c.args.row.now c.args.t i) c.args.k)

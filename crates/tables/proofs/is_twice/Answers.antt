@@ -1,21 +1,13 @@
-use mathlib.Core.Path.{◌≡◌, refl}
-use native.Mathlib.Omega.{arith}
-use Rattle.bounded.specs.Bounded.{any_below}
-use Rattle.bounded.proofs.Laws.{any_down}
-use Rattle.tables.specs.Lists.{twice}
+-- `tables::is_twice` meets its contract. The chain tests the keys from the first on, `twice` from the last.
+use Rattle.std.proofs.Common.{arith, rules, ◌∙◌, refl}
+use Rattle.std.proofs.lemmas.Iterator.{YieldsList-from_range}
+use Rattle.std.proofs.lemmas.Iterator.Search.{any_from_yields_List}
+use Rattle.bounded.proofs.Ranges.{any_in_range}
+use Rattle.tables.specs.Lists.{in_row, row_at, twice}
 use Rattle.tables.proofs.is_twice.Goals as goal
 
-pub loop-i-init : goal.loop-i-init
-loop-i-init c = (omega arith, refl)
-
-pub returns-then-in_row : goal.returns-then-in_row
-unfolding twice
-returns-then-in_row c = rw (← c.loop-i.invariant.1, any_down _ _ c.loop-i-test.true, ← c.in_row.ensures, c.if-in_row.true)
-
-pub loop-i-preserved : goal.loop-i-preserved
-unfolding twice
-loop-i-preserved c = (omega arith, rw (← c.loop-i.invariant.1, any_down _ _ c.loop-i-test.true, ← c.in_row.ensures, c.if-in_row.false))
-
 pub returns : goal.returns
-unfolding twice any_below
-returns c = let z : c.loop-i.i ≡ 0 = omega arith in rw (← c.loop-i.invariant.1, z)
+unfolding twice
+returns c =
+    any_from_yields_List (λ i. in_row c.args.row.now c.args.t i (row_at c.args.row.now c.args.t i)) _ _ _ c.any.ensures.ran (YieldsList-from_range 0 c.args.n c.args.n refl (omega arith)) (λ x b q h. search rules)
+    ∙ any_in_range c.args.n (λ i. in_row c.args.row.now c.args.t i (row_at c.args.row.now c.args.t i))

@@ -1,5 +1,5 @@
 -- `tables::no_tables` meets its contract. The literal is `no_tables`.
-use borrow.Author.Rules.{rules}
+use Rattle.std.proofs.Common.{rules}
 use Rattle.tables.specs.Empty.{no_tables}
 use Rattle.tables.proofs.no_tables.Goals as goal
 

@@ -4,4 +4,4 @@ use Rattle.machine.proofs.State.start.Goals as goal
 
 pub returns : goal.returns
 unfolding start_of
-returns c = rw c.first_store-values.ensures
+returns c = rw c.first_store.ensures

@@ -1,30 +1,37 @@
--- `tables::Tables::judged` meets its contract. Each refusal that is not 0 stands before the later ones, and groups that are not refused are at most eight.
-use mathlib.Core.Path.{sym, ◌∙◌}
-use borrow.Author.Tests.{eq-eqb, ne_eqb}
+-- `Tables::judged` meets its contract. A refusal stands before the later ones, and groups that are not refused are at most eight.
+use Rattle.std.proofs.Common.{ℕ, ◌≡◌, sym, ◌∙◌, eq-eqb, ne_eqb, cond, eqb}
 use Rattle.tables.specs.Judge.{judge}
-use Rattle.bounded.proofs.Laws.{else-keep}
-use Rattle.tables.proofs.Laws.{groups_low}
+use Rattle.tables.proofs.Laws.{handed, before, after, groups_low}
 use Rattle.tables.proofs.Tables.judged.Goals as goal
+use Rattle.tables.proofs.Tables.judged.Goals.{After-groups_refusal}
 
-pub returns-then-k-ne0 : goal.returns-then-k-ne0
+-- a group there is
+some : (c : After-groups_refusal) → ◌≡◌ {A = ℕ} 0 (cond (eqb c.args.self.now.groups 0) 3 0)
+some c = rw (ne_eqb _ _ c.if-self-eq0.false)
+
+pub returns-in_err-keys_refusal : goal.returns-in_err-keys_refusal
 unfolding judge
-returns-then-k-ne0 c = rw (← c.keys_refusal-k.ensures) (sym (else-keep _ _ c.if-k-ne0.true))
+returns-in_err-keys_refusal c = handed _ _ c.from_residual.ensures.1 ∙ before _ _ _ c.in_err-keys_refusal.ensures
 
 pub returns-then-self-eq0 : goal.returns-then-self-eq0
 unfolding judge
-returns-then-self-eq0 c = rw (← c.keys_refusal-k.ensures, c.if-k-ne0.false, eq-eqb _ _ c.if-self-eq0.true)
+returns-then-self-eq0 c = after _ _ _ c.in_ok-keys_refusal.ensures (rw (eq-eqb _ _ c.if-self-eq0.true))
 
-pub returns-then-g-ne0 : goal.returns-then-g-ne0
+pub returns-in_err-groups_refusal : goal.returns-in_err-groups_refusal
 unfolding judge
-returns-then-g-ne0 c = rw (← c.keys_refusal-k.ensures, c.if-k-ne0.false, ne_eqb _ _ c.if-self-eq0.false, ← c.groups_refusal-g.ensures) (sym (else-keep _ _ c.if-g-ne0.true))
+returns-in_err-groups_refusal c =
+    handed _ _ c.from_residual-in_err-groups_refusal.ensures.1
+    ∙ after _ _ _ c.in_ok-keys_refusal.ensures (after _ _ _ (some (goal.at.returns-in_err-groups_refusal c).After-groups_refusal) (before _ _ _ c.in_err-groups_refusal.ensures))
 
-pub returns-then-t-ne0 : goal.returns-then-t-ne0
+pub returns-in_err-txns_refusal : goal.returns-in_err-txns_refusal
 unfolding judge
-returns-then-t-ne0 c = rw (← c.keys_refusal-k.ensures, c.if-k-ne0.false, ne_eqb _ _ c.if-self-eq0.false, ← c.groups_refusal-g.ensures, c.if-g-ne0.false, ← c.txns_refusal-t.ensures) (sym (else-keep _ _ c.if-t-ne0.true))
+returns-in_err-txns_refusal c =
+    handed _ _ c.from_residual-in_err-txns_refusal.ensures.1
+    ∙ after _ _ _ c.in_ok-keys_refusal.ensures (after _ _ _ (some (goal.at.returns-in_err-txns_refusal c).After-groups_refusal) (after _ _ _ c.in_ok-groups_refusal.ensures (before _ _ _ c.in_err-txns_refusal.ensures)))
 
 pub end_refusal-requires : goal.end_refusal-requires
-end_refusal-requires c = groups_low c.args.self _ (sym c.groups_refusal-g.ensures ∙ c.if-g-ne0.false)
+end_refusal-requires c = groups_low c.args.self.now _ (sym c.in_ok-groups_refusal.ensures)
 
 pub returns : goal.returns
 unfolding judge
-returns c = rw (← c.keys_refusal-k.ensures, c.if-k-ne0.false, ne_eqb _ _ c.if-self-eq0.false, ← c.groups_refusal-g.ensures, c.if-g-ne0.false, ← c.txns_refusal-t.ensures, c.if-t-ne0.false) c.end_refusal.ensures
+returns c = after _ _ _ c.in_ok-keys_refusal.ensures (after _ _ _ (some (goal.at.returns c).After-groups_refusal) (after _ _ _ c.in_ok-groups_refusal.ensures (after _ _ _ c.in_ok-txns_refusal.ensures c.end_refusal.ensures)))

@@ -1,18 +1,16 @@
-use mathlib.Core.Path.{◌≡◌, refl, sym}
-use native.Mathlib.Omega.{arith}
+use Rattle.std.proofs.Common.{refl, sym, ◌∙◌}
 use Rattle.bounded.specs.Bounded.{first_of}
 use Rattle.bounded.proofs.Laws.{of_up, stops}
+use Rattle.tables.proofs.Laws.{handed}
+use Rattle.numbers.proofs.Laws.{file_above}
 use Rattle.tables.proofs.Tables.txns_refusal.Goals as goal
 
 pub loop-t-init : goal.loop-t-init
 unfolding first_of
-loop-t-init c = (omega arith, refl)
+loop-t-init c = refl
 
-pub returns-then-r-ne0 : goal.returns-then-r-ne0
-returns-then-r-ne0 c = stops _ _ _ _ c.loop-t-test.true c.loop-t.invariant.1 c.txn_refusal-r.ensures c.if-r-ne0.true
+pub returns-in_err-txn_refusal : goal.returns-in_err-txn_refusal
+returns-in_err-txn_refusal c = handed _ _ c.from_residual.ensures.1 ∙ stops _ _ _ _ c.loop-t-test.true c.loop-t.invariant c.in_err-txn_refusal.ensures (file_above _)
 
 pub loop-t-preserved : goal.loop-t-preserved
-loop-t-preserved c = (omega (arith, c.loop-t-test.true), rw (of_up, c.loop-t.invariant.1, ← c.txn_refusal-r.ensures) c.if-r-ne0.false)
-
-pub returns : goal.returns
-returns c = let z : c.loop-t.t ≡ c.args.self.txns = omega (arith, c.loop-t.invariant.0, c.loop-t-test.false) in rw z at (sym c.loop-t.invariant.1)
+loop-t-preserved c = rw (of_up, c.loop-t.invariant) (sym c.in_ok-txn_refusal.ensures)

@@ -1,0 +1,6 @@
+-- `keys::without` meets its contract. Bit k is cleared, and the others stay.
+use Rattle.keys.proofs.Laws.{clear_member}
+use Rattle.keys.proofs.without.Goals as goal
+
+pub returns : goal.returns
+returns c = λ j. clear_member c.args.m c.args.k j c.ranges.m.fits c.requires

@@ -1,7 +1,0 @@
-use mathlib.Core.Logic.{inl}
-use native.Mathlib.Omega.{arith}
-use Rattle.layout.proofs.Copies.{all_copied}
-use Rattle.layout.proofs.put_recorded.Goals as goal
-
-pub returns : goal.returns
-returns c = let w = all_copied _ _ _ _ _ _ _ _ _ c.loop-i.invariant c.loop-i-test.false (omega arith) in record { flags_after = w.0; by_index = λ j h. w.1 j (inl h) }
