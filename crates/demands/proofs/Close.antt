@@ -14,7 +14,7 @@ use borrow.Author.Tests.{eqb-true, eq-eqb, ne_eqb, lt-ltb, lt-leb}
 use Rattle.queues.specs.Queue.{submitted_in}
 use Rattle.bounded.proofs.Truth.{and-true, bool, clash, same}
 use Rattle.bounded.proofs.Laws.{all_put}
-use Rattle.tables.specs.Lists.{in_row, write_count, write_key, write_value}
+use Rattle.tables.specs.Lists.{in_row, write_count, write_key, write_value, write_row}
 use Rattle.tables.specs.Sites.{site_count, holds}
 use Rattle.tables.specs.Concern.{concerns}
 use Rattle.tables.specs.declared.Tables.{Tables}
@@ -79,15 +79,15 @@ module _ (st : State) (g : Taken st.tables) (z : Arrays st) (t s c : ℕ) (txn :
       apart_from : (i : ℕ) → i < n → holds T s (write_key T t i) ≡ true → a * 64 + k ≡ s * 64 + write_key T t i → ⊥
       apart_from i l _ e =
           let (p, q) = Cells.apart 64 a k s (write_key T t i) (omega (arith, g.low a k h, g.keys)) (omega (arith, (g.writes t txn).low i l, g.keys)) e in
-          ne (p, subst (λ k. (table_of T).writes t k ≡ true) (sym q) (listed_put T.txns t n i T.writes txn l))
+          ne (p, subst (λ k. (table_of T).writes t k ≡ true) (sym q) (listed_put T.txns t n i (write_row T t) txn l))
 
   raised : (k : ℕ) → holds T s k ≡ true → (table_of T).writes t k ≡ true
       → ◌≡◌ {A = ℕ × ℕ} (version_at (committed st t s) s k, value_at (committed st t s) s k) (suc (version_at st s k), (table_of T).gives t k)
   unfolding committed
   raised k h w =
-      let (l, e) = slot_is T.writes t n k (g.writes t txn).few (and-true (ltb t T.txns) (in_row T.writes t n k) w).1 in
-      let i = slot T.writes t n k in
-      let u : (j : ℕ) → j < n → write_key T t i ≡ write_key T t j → i ≡ j = λ j m q. row_apart T.writes t n i j (g.writes t txn).once l m q in
+      let (l, e) = slot_is (write_row T t) n k (g.writes t txn).few (and-true (ltb t T.txns) (in_row (write_row T t) n k) w).1 in
+      let i = slot (write_row T t) n k in
+      let u : (j : ℕ) → j < n → write_key T t i ≡ write_key T t j → i ≡ j = λ j m q. row_apart (write_row T t) n i j (g.writes t txn).once l m q in
       let b : s * 64 + write_key T t i < 1024 = omega (arith, near, (g.writes t txn).low i l, g.keys) in
       let x = stored_at T t s (version 0) (λ i v. version (v.0 + 1)) st.parts.versions n i l u (rw e h) (omega (arith, z.versions)) in
       let y = stored_at T t s 0 (λ i x. write_value T t i) st.parts.values n i l u (rw e h) (omega (arith, z.values)) in

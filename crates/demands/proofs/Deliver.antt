@@ -12,7 +12,7 @@ use Rattle.queues.specs.Queue.{waits, next_in, blocked_in, submitted_in}
 use Rattle.parts.specs.Cells.{place_in, nobody}
 use Rattle.bounded.proofs.Truth.{and-true, and_put, or-true, or_left, or_right, bool, clash, same, passed}
 use Rattle.bounded.proofs.Laws.{any_get, any_put, first-is, any_lack, all_same}
-use Rattle.tables.specs.Lists.{in_row, meets, read_count, read_key, write_count, conflict_in, conflict}
+use Rattle.tables.specs.Lists.{in_row, meets, read_count, read_key, write_count, conflict_in, conflict, read_row, write_row}
 use Rattle.tables.specs.Sites.{site_count, holds}
 use Rattle.tables.specs.Concern.{concerns, votes}
 use Rattle.tables.specs.declared.Tables.{Tables}
@@ -39,28 +39,28 @@ use Rattle.demands.proofs.Sized.{Arrays}
 
 -- ---- conflicts
 
-meets_put : (T : Tables) (t u k : ℕ) → (table_of T).reads t k ≡ true → (table_of T).writes u k ≡ true → meets T.reads t (read_count T t) T.writes u (write_count T u) ≡ true
+meets_put : (T : Tables) (t u k : ℕ) → (table_of T).reads t k ≡ true → (table_of T).writes u k ≡ true → meets (read_row T t) (read_count T t) (write_row T u) (write_count T u) ≡ true
 unfolding meets
 meets_put T t u k r w =
-    let (i, a, l, e) = listed_get T.txns t (read_count T t) k T.reads r in
-    any_put (read_count T t) (λ i. in_row T.writes u (write_count T u) (read_key T t i)) i l
-    (subst (λ k. in_row T.writes u (write_count T u) k ≡ true) (sym e) (and-true (ltb u T.txns) (in_row T.writes u (write_count T u) k) w).1)
+    let (i, a, l, e) = listed_get T.txns t (read_count T t) k (read_row T t) r in
+    any_put (read_count T t) (λ i. in_row (write_row T u) (write_count T u) (read_key T t i)) i l
+    (subst (λ k. in_row (write_row T u) (write_count T u) k ≡ true) (sym e) (and-true (ltb u T.txns) (in_row (write_row T u) (write_count T u) k) w).1)
 
-meets_get : (T : Tables) (t u : ℕ) → t < T.txns → u < T.txns → meets T.reads t (read_count T t) T.writes u (write_count T u) ≡ true
+meets_get : (T : Tables) (t u : ℕ) → t < T.txns → u < T.txns → meets (read_row T t) (read_count T t) (write_row T u) (write_count T u) ≡ true
     → (k : ℕ) × ((table_of T).reads t k ≡ true) × ((table_of T).writes u k ≡ true)
 unfolding meets
 meets_get T t u a b h =
-    let (i, l, e) = any_get (read_count T t) (λ i. in_row T.writes u (write_count T u) (read_key T t i)) h in
-    (read_key T t i, listed_put T.txns t (read_count T t) i T.reads a l, and_put (ltb u T.txns) (in_row T.writes u (write_count T u) (read_key T t i)) (lt-ltb u T.txns b) e)
+    let (i, l, e) = any_get (read_count T t) (λ i. in_row (write_row T u) (write_count T u) (read_key T t i)) h in
+    (read_key T t i, listed_put T.txns t (read_count T t) i (read_row T t) a l, and_put (ltb u T.txns) (in_row (write_row T u) (write_count T u) (read_key T t i)) (lt-ltb u T.txns b) e)
 
 conflict_put : (T : Tables) (t u : ℕ) → Conflict (table_of T) t u → conflict T t u ≡ true
 unfolding conflict_in
-conflict_put T t u (inl q) = or_left (meets T.reads t (read_count T t) T.writes u (write_count T u)) _ (meets_put T t u q.0 q.1 q.2)
-conflict_put T t u (inr q) = or_right (meets T.reads t (read_count T t) T.writes u (write_count T u)) _ (meets_put T u t q.0 q.1 q.2)
+conflict_put T t u (inl q) = or_left (meets (read_row T t) (read_count T t) (write_row T u) (write_count T u)) _ (meets_put T t u q.0 q.1 q.2)
+conflict_put T t u (inr q) = or_right (meets (read_row T t) (read_count T t) (write_row T u) (write_count T u)) _ (meets_put T u t q.0 q.1 q.2)
 
 conflict_get : (T : Tables) (t u : ℕ) → t < T.txns → u < T.txns → conflict T t u ≡ true → Conflict (table_of T) t u
 unfolding conflict_in
-conflict_get T t u a b h = elim (or-true (meets T.reads t (read_count T t) T.writes u (write_count T u)) (meets T.reads u (read_count T u) T.writes t (write_count T t)) h) [
+conflict_get T t u a b h = elim (or-true (meets (read_row T t) (read_count T t) (write_row T u) (write_count T u)) (meets (read_row T u) (read_count T u) (write_row T t) (write_count T t)) h) [
   | inl q ↦ inl (meets_get T t u a b q)
   | inr q ↦ inr (meets_get T u t b a q)
 ]
@@ -143,14 +143,14 @@ module _ (st : State) (g : Taken st.tables) (w : Sound st) (s t : ℕ) (n : Next
   pub vote_is : vote_r (rules_of T) v s t ≡ vote_of st t s
   unfolding certify_by vote_by certify_in
   vote_is = rw (lt-ltb t T.txns n.txn) (ap (λ b. cond (votes T t s) (cond b 1 2) 0)
-      (all_same (read_count T t) (matching T (v.seen t) (v.store s) s t) (λ i. not (holds T s (read_key T t i)) || current st.parts.versions st.parts.readversions st.parts.recorded T.reads t s i) each))
+      (all_same (read_count T t) (matching T (v.seen t) (v.store s) s t) (λ i. not (holds T s (read_key T t i)) || current st.parts.versions st.parts.readversions st.parts.recorded (read_row T t) t s i) each))
     where
-      each : (i : ℕ) → i < read_count T t → matching T (v.seen t) (v.store s) s t i ≡ (not (holds T s (read_key T t i)) || current st.parts.versions st.parts.readversions st.parts.recorded T.reads t s i)
+      each : (i : ℕ) → i < read_count T t → matching T (v.seen t) (v.store s) s t i ≡ (not (holds T s (read_key T t i)) || current st.parts.versions st.parts.readversions st.parts.recorded (read_row T t) t s i)
       each i l =
           let k = read_key T t i in
           let b : i < 8 = omega (arith, (g.reads t n.txn).few) in
-          let e : place T t k ≡ i = slot_at T.reads t (read_count T t) i (g.reads t n.txn).few (g.reads t n.txn).once l in
-          let d : v.recorded t k ≡ true = (inv_of T st w).placed_recorded t k n.placed (listed_put T.txns t (read_count T t) i T.reads n.txn l) in
+          let e : place T t k ≡ i = slot_at (read_row T t) (read_count T t) i (g.reads t n.txn).few (g.reads t n.txn).once l in
+          let d : v.recorded t k ≡ true = (inv_of T st w).placed_recorded t k n.placed (listed_put T.txns t (read_count T t) i (read_row T t) n.txn l) in
           let r : get_or st.parts.recorded (t * 8 + i) false ≡ true = rw (e, cell_in 8 false st.parts.recorded t i b) at d in
           elim (bool (holds T s k)) [
             | inr h ↦ rw h

@@ -18,7 +18,7 @@ use Rattle.queues.specs.Queue.{submitted_in}
 use Rattle.bounded.specs.Bounded.{sum_below}
 use Rattle.bounded.proofs.Truth.{bool, same}
 use Rattle.keys.specs.Keys.{member}
-use Rattle.tables.specs.Lists.{in_row, write_count}
+use Rattle.tables.specs.Lists.{in_row, write_count, write_row}
 use Rattle.tables.specs.Sites.{holds}
 use Rattle.tables.specs.Concern.{votes}
 use Rattle.tables.specs.declared.Tables.{Tables}
@@ -148,7 +148,7 @@ module _ (st : State) (h : usable st ≡ true) where
   }
     where
       cells : (r k : ℕ) → k < 64 → (version_at x r k ≡ version_at y r k) × (value_at x r k ≡ value_at y r k)
-      cells r k b = elim (bool (eqb r s && (in_row T.writes t (write_count T t) k && holds T s k))) [
+      cells r k b = elim (bool (eqb r s && (in_row (write_row T t) (write_count T t) k && holds T s k))) [
         | inl e ↦
             let (c, w) = changed.0 e in
             let (i, l, d) = w.0 in
@@ -161,8 +161,8 @@ module _ (st : State) (h : usable st ≡ true) where
             (via (p.others r k b n).0 (q.others r k b n).0, via (p.others r k b n).1 (q.others r k b n).1)
       ]
         where
-          changed : Says (eqb r s && (in_row T.writes t (write_count T t) k && holds T s k)) ((r ≡ s) × (Writes T t k × Holds T s k))
-          changed = and_says (eq_says r s) (and_says (row_says T.writes t (write_count T t) k) Iff.rfl)
+          changed : Says (eqb r s && (in_row (write_row T t) (write_count T t) k && holds T s k)) ((r ≡ s) × (Writes T t k × Holds T s k))
+          changed = and_says (eq_says r s) (and_says (row_says (write_row T t) (write_count T t) k) Iff.rfl)
 
   read_same : {t i s : ℕ} {a b : Answered} {n o : State} → n.tables ≡ o.tables → DoesRead st t i s a n → DoesRead st t i s b o → answering a n ≡ answering b o
   read_same e p q = made (via p.answered q.answered) e (stores_left p.stores q.stores) (record {

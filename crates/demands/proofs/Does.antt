@@ -18,7 +18,7 @@ use Rattle.bounded.specs.Bounded.{sum_below}
 use Rattle.bounded.proofs.Truth.{bool}
 use Rattle.keys.specs.Keys.{member, adding}
 use Rattle.keys.proofs.Laws.{adding_same, adding_other}
-use Rattle.tables.specs.Lists.{read_key, write_count, write_key, write_value}
+use Rattle.tables.specs.Lists.{read_key, write_count, write_key, write_value, write_row}
 use Rattle.tables.specs.Sites.{holds}
 use Rattle.tables.specs.declared.Tables.{Tables}
 use Rattle.steps.specs.Kinds.{version, place}
@@ -135,7 +135,7 @@ module _ (st : State) (z : Arrays st) (u : Usable st) where
   unfolding committed
   stores_do t s c txn near = record {
     raised = λ i l h.
-        let once : (j : ℕ) → j < n → write_key T t i ≡ write_key T t j → i ≡ j = λ j m q. row_apart T.writes t n i j (u.writes t txn).once l m q in
+        let once : (j : ℕ) → j < n → write_key T t i ≡ write_key T t j → i ≡ j = λ j m q. row_apart (write_row T t) n i j (u.writes t txn).once l m q in
         let b : s * 64 + write_key T t i < 1024 = omega (arith, (u.writes t txn).low i l, u.keys) in (
           ap (λ (v : Version). v.0) (stored_at T t s (version 0) (λ i v. version (v.0 + 1)) st.parts.versions n i l once h (omega (arith, z.versions))) ∙ add-one (version_at st s (write_key T t i)),
           stored_at T t s 0 (λ i x. write_value T t i) st.parts.values n i l once h (omega (arith, z.values)),

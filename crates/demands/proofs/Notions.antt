@@ -15,7 +15,7 @@ use Rattle.parts.specs.Cells.{place_in, nobody}
 use Rattle.bounded.specs.Bounded.{any_below, all_below}
 use Rattle.bounded.proofs.Truth.{bool}
 use Rattle.keys.specs.Keys.{member}
-use Rattle.tables.specs.Lists.{row_at, in_row, meets, read_count, read_key, write_count, write_key, conflict_in, conflict}
+use Rattle.tables.specs.Lists.{row_at, in_row, meets, read_count, read_key, write_count, write_key, conflict_in, conflict, read_row, write_row}
 use Rattle.tables.specs.Sites.{site_count, site_keys, holds}
 use Rattle.tables.specs.Concern.{some_in, all_in, votes, touches, concerns, inside, holds_all, local}
 use Rattle.tables.specs.declared.Tables.{Tables}
@@ -30,43 +30,43 @@ use Rattle.demands.proofs.Says.{Says, eq_says, lt_says, and_says, or_says, fails
 
 -- ---- rows
 
--- k is among the first n of row t
-abbrev pub In : List ℕ → ℕ → ℕ → ℕ → Type 0
-In row t n k = (i : ℕ) × (i < n) × (row_at row t i ≡ k)
+-- k is among the first n of a list
+abbrev pub In : List ℕ → ℕ → ℕ → Type 0
+In row n k = (i : ℕ) × (i < n) × (row_at row i ≡ k)
 
-module _ (row : List ℕ) (t n : ℕ) (P : ℕ → Type 0) where
-  some_key : ((i : ℕ) × (i < n) × P (row_at row t i)) ↔ ((k : ℕ) × In row t n k × P k)
-  some_key = (λ x. (row_at row t x.0, (x.0, x.1, refl), x.2), λ x. (x.1.0, x.1.1, subst P (sym x.1.2) x.2))
+module _ (row : List ℕ) (n : ℕ) (P : ℕ → Type 0) where
+  some_key : ((i : ℕ) × (i < n) × P (row_at row i)) ↔ ((k : ℕ) × In row n k × P k)
+  some_key = (λ x. (row_at row x.0, (x.0, x.1, refl), x.2), λ x. (x.1.0, x.1.1, subst P (sym x.1.2) x.2))
 
-  each_key : ((i : ℕ) → i < n → P (row_at row t i)) ↔ ((k : ℕ) → In row t n k → P k)
-  each_key = (λ h k x. subst P x.2 (h x.0 x.1), λ h i l. h (row_at row t i) (i, l, refl))
+  each_key : ((i : ℕ) → i < n → P (row_at row i)) ↔ ((k : ℕ) → In row n k → P k)
+  each_key = (λ h k x. subst P x.2 (h x.0 x.1), λ h i l. h (row_at row i) (i, l, refl))
 
-pub row_says : (row : List ℕ) (t n k : ℕ) → Says (in_row row t n k) (In row t n k)
+pub row_says : (row : List ℕ) (n k : ℕ) → Says (in_row row n k) (In row n k)
 unfolding in_row
-row_says row t n k = any_says n (λ i. eqb (row_at row t i) k) (λ i l. eq_says (row_at row t i) k)
+row_says row n k = any_says n (λ i. eqb (row_at row i) k) (λ i l. eq_says (row_at row i) k)
 
-some_says : (row : List ℕ) (t n m : ℕ) → Says (some_in row t n m) ((k : ℕ) × In row t n k × (member m k ≡ true))
+some_says : (row : List ℕ) (n m : ℕ) → Says (some_in row n m) ((k : ℕ) × In row n k × (member m k ≡ true))
 unfolding some_in
-some_says row t n m = Iff.trans (any_says n (λ i. member m (row_at row t i)) (λ i l. Iff.rfl)) (some_key row t n (λ k. member m k ≡ true))
+some_says row n m = Iff.trans (any_says n (λ i. member m (row_at row i)) (λ i l. Iff.rfl)) (some_key row n (λ k. member m k ≡ true))
 
-all_in_says : (row : List ℕ) (t n m : ℕ) → Says (all_in row t n m) ((k : ℕ) → In row t n k → member m k ≡ true)
+all_in_says : (row : List ℕ) (n m : ℕ) → Says (all_in row n m) ((k : ℕ) → In row n k → member m k ≡ true)
 unfolding all_in
-all_in_says row t n m = Iff.trans (all_says n (λ i. member m (row_at row t i)) (λ i l. Iff.rfl)) (each_key row t n (λ k. member m k ≡ true))
+all_in_says row n m = Iff.trans (all_says n (λ i. member m (row_at row i)) (λ i l. Iff.rfl)) (each_key row n (λ k. member m k ≡ true))
 
-meets_says : (row other : List ℕ) (t n u m : ℕ) → Says (meets row t n other u m) ((k : ℕ) × In row t n k × In other u m k)
+meets_says : (row other : List ℕ) (n m : ℕ) → Says (meets row n other m) ((k : ℕ) × In row n k × In other m k)
 unfolding meets
-meets_says row other t n u m =
-    Iff.trans (any_says n (λ i. in_row other u m (row_at row t i)) (λ i l. row_says other u m (row_at row t i))) (some_key row t n (λ k. In other u m k))
+meets_says row other n m =
+    Iff.trans (any_says n (λ i. in_row other m (row_at row i)) (λ i l. row_says other m (row_at row i))) (some_key row n (λ k. In other m k))
 
 -- ---- tables
 
 module _ (T : Tables) where
   pub voter_says : (t s : ℕ) → Says (votes T t s) (InV T t s)
-  voter_says t s = some_says T.reads t (read_count T t) (site_keys T s)
+  voter_says t s = some_says (read_row T t) (read_count T t) (site_keys T s)
 
   pub concerns_says : (t s : ℕ) → Says (concerns T t s) (InR T t s)
   unfolding touches
-  concerns_says t s = Iff.trans (or_says (voter_says t s) (some_says T.writes t (write_count T t) (site_keys T s))) (
+  concerns_says t s = Iff.trans (or_says (voter_says t s) (some_says (write_row T t) (write_count T t) (site_keys T s))) (
     λ x. elim x [ inl y ↦ (y.0, inl y.1, y.2) | inr y ↦ (y.0, inr y.1, y.2) ],
     λ x. elim x.1 [ inl y ↦ inl (x.0, y, x.2) | inr y ↦ inr (x.0, y, x.2) ],
   )
@@ -78,14 +78,14 @@ module _ (T : Tables) where
   pub local_says : (t : ℕ) → Says (local T t) (Local T t)
   unfolding local inside
   local_says t = Iff.trans
-      (all_says (site_count T) (λ s. not (concerns T t s) || holds_all T t s) (λ s l. implies_says (concerns_says t s) (and_says (all_in_says T.reads t (read_count T t) (site_keys T s)) (all_in_says T.writes t (write_count T t) (site_keys T s))))) (
+      (all_says (site_count T) (λ s. not (concerns T t s) || holds_all T t s) (λ s l. implies_says (concerns_says t s) (and_says (all_in_says (read_row T t) (read_count T t) (site_keys T s)) (all_in_says (write_row T t) (write_count T t) (site_keys T s))))) (
         λ h s r k y. elim y [ inl x ↦ (h s (site_of_lem t s r) r).0 k x | inr x ↦ (h s (site_of_lem t s r) r).1 k x ],
         λ h s l r. (λ k x. h s r k (inl x), λ k x. h s r k (inr x)),
       )
 
   pub conflict_says : (t u : ℕ) → Says (conflict T t u) (Conflict T t u)
   unfolding conflict_in
-  conflict_says t u = Iff.trans (or_says (meets_says T.reads T.writes t (read_count T t) u (write_count T u)) (meets_says T.reads T.writes u (read_count T u) t (write_count T t))) (
+  conflict_says t u = Iff.trans (or_says (meets_says (read_row T t) (write_row T u) (read_count T t) (write_count T u)) (meets_says (read_row T u) (write_row T t) (read_count T u) (write_count T t))) (
     λ x. elim x [ inl y ↦ (y.0, inl (y.1, y.2)) | inr y ↦ (y.0, inr (y.2, y.1)) ],
     λ x. elim x.1 [ inl y ↦ inl (x.0, y.0, y.1) | inr y ↦ inr (x.0, y.1, y.0) ],
   )
@@ -139,9 +139,9 @@ module _ (st : State) where
 
   -- t's i-th read does not keep s from a yes
   abbrev certified : ℕ → ℕ → ℕ → Bool
-  certified s t i = not (holds T s (read_key T t i)) || current st.parts.versions st.parts.readversions st.parts.recorded T.reads t s i
+  certified s t i = not (holds T s (read_key T t i)) || current st.parts.versions st.parts.readversions st.parts.recorded (read_row T t) t s i
 
-  pub certifies_says : (s t : ℕ) → (certify_in st.parts.versions st.parts.readversions st.parts.recorded T.reads (read_count T t) t s (site_keys T s) ≡ 1) ↔ Certifies st s t
+  pub certifies_says : (s t : ℕ) → (certify_in st.parts.versions st.parts.readversions st.parts.recorded (read_row T t) (read_count T t) t s (site_keys T s) ≡ 1) ↔ Certifies st s t
   unfolding certify_in
   certifies_says s t = by (all_says (read_count T t) (certified s t)
       (λ i l. implies_says Iff.rfl (and_says Iff.rfl (eq_says (version_at st s (read_key T t i)) (get_or st.parts.readversions (t * 8 + i) (version 0)).0))))
@@ -173,7 +173,7 @@ module _ (st : State) where
   )
 
   abbrev pub covered_at : ℕ → ℕ → Bool
-  covered_at s t = covered_in (cast_by st t s) (carried_to st t s) T.sizes T.masks T.groups T.reads (read_count T t) (site_count T) t s
+  covered_at s t = covered_in (cast_by st t s) (carried_to st t s) T.group T.groups (read_row T t) (read_count T t) (site_count T) s
 
   abbrev pub agreed : ℕ → ℕ → Bool
   agreed s t = all_yes_in st.parts.cast (carried_to st t s) (site_count T) t s
@@ -184,7 +184,7 @@ module _ (st : State) where
       (all_says (read_count T t) (λ i. any_below (site_count T) (λ f. holds_vote_of st t s f && holds T f (read_key T t i)))
       (λ i l. Iff.trans (any_says (site_count T) (λ f. holds_vote_of st t s f && holds T f (read_key T t i)) (λ f m. and_says (holds_says s t f) Iff.rfl))
       (λ x. (x.0, x.1, x.2.0, x.2.1), λ x. (x.0, x.1, (x.2, x.3)))))
-      (each_key T.reads t (read_count T t) (λ k. (f : ℕ) × IsSite st f × HasVote st s t f × Holds T f k))
+      (each_key (read_row T t) (read_count T t) (λ k. (f : ℕ) × IsSite st f × HasVote st s t f × Holds T f k))
 
   pub yes_says : (s t : ℕ) → Says (agreed s t) (AllYes st s t)
   unfolding all_yes_in
@@ -236,4 +236,4 @@ module _ (st : State) where
   room_says s t = Iff.trans
       (all_says (write_count T t) (λ i. not (holds T s (write_key T t i)) || ltb (version_at st s (write_key T t i)) 4294967295)
       (λ i l. implies_says Iff.rfl (lt_says (version_at st s (write_key T t i)) 4294967295)))
-      (each_key T.writes t (write_count T t) (λ k. Holds T s k → version_at st s k < 4294967295))
+      (each_key (write_row T t) (write_count T t) (λ k. Holds T s k → version_at st s k < 4294967295))

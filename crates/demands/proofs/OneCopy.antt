@@ -7,7 +7,7 @@ use mathlib.Core.List.{List}
 use native.Mathlib.Omega.{arith}
 use lib.Dec.{eqb}
 use Rattle.bounded.proofs.Laws.{any_same}
-use Rattle.tables.specs.Lists.{read_count, read_key}
+use Rattle.tables.specs.Lists.{read_count, read_key, read_row}
 use Rattle.tables.specs.Sites.{site_count, holds}
 use Rattle.tables.specs.Judge.{judge}
 use Rattle.tables.specs.declared.Tables.{Tables}
@@ -56,15 +56,15 @@ module _ (st : State) (g : Taken st.tables) (r : Reached (plan_of st.tables) (wo
   seen-is : (t i : ℕ) → t < T.txns → i < read_count T t → v.seen t (read_key T t i) ≡ returned st t i
   seen-is t i a l =
       let b : i < 8 = omega (arith, (g.reads t a).few) in
-      rw (slot_at T.reads t (read_count T t) i (g.reads t a).few (g.reads t a).once l, cell_in 8 (version 0) st.parts.readversions t i b, cell_in 8 0 st.parts.readvalues t i b)
+      rw (slot_at (read_row T t) (read_count T t) i (g.reads t a).few (g.reads t a).once l, cell_in 8 (version 0) st.parts.readversions t i b, cell_in 8 0 st.parts.readvalues t i b)
 
   -- its reads match exactly if those of its view do
   matches_get : (t : ℕ) → t < T.txns → Theory.Matches (table_of T) v t → Matches st t
-  matches_get t a m i l = sym (seen-is t i a l) ∙ m (read_key T t i) (listed_put T.txns t (read_count T t) i T.reads a l) ∙ copy_is (place_of st t) (read_key T t i)
+  matches_get t a m i l = sym (seen-is t i a l) ∙ m (read_key T t i) (listed_put T.txns t (read_count T t) i (read_row T t) a l) ∙ copy_is (place_of st t) (read_key T t i)
 
   matches_put : (t : ℕ) → Matches st t → Theory.Matches (table_of T) v t
   matches_put t m k d =
-      let (i, a, l, e) = listed_get T.txns t (read_count T t) k T.reads d in
+      let (i, a, l, e) = listed_get T.txns t (read_count T t) k (read_row T t) d in
       subst (λ k. v.seen t k ≡ single (table_of T) v (place_of st t) k) e (seen-is t i a l ∙ m i l ∙ sym (copy_is (place_of st t) (read_key T t i)))
 
   closed_txn : (t s : ℕ) → s < site_count T → 0 < closed_at st t s → t < T.txns

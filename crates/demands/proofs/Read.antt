@@ -11,7 +11,7 @@ use lib.ListN.{length, set}
 use borrow.Author.Tests.{eqb-true, eq-eqb, ne_eqb, leb-false, not-false}
 use Rattle.queues.specs.Queue.{submitted_in}
 use Rattle.bounded.proofs.Truth.{and-true, bool, same, passed, iff_eq}
-use Rattle.tables.specs.Lists.{in_row, read_count, read_key}
+use Rattle.tables.specs.Lists.{in_row, read_count, read_key, read_row}
 use Rattle.tables.specs.Sites.{site_count, holds}
 use Rattle.tables.specs.declared.Tables.{Tables}
 use Rattle.steps.specs.Kinds.{version}
@@ -59,18 +59,18 @@ module _ (st : State) (g : Taken st.tables) (z : Arrays st) (t i s : ℕ) (h : R
   short = omega (arith, (g.reads t h.txn).few, h.among)
 
   at_i : place T t k ≡ i
-  at_i = slot_at T.reads t (read_count T t) i (g.reads t h.txn).few (g.reads t h.txn).once h.among
+  at_i = slot_at (read_row T t) (read_count T t) i (g.reads t h.txn).few (g.reads t h.txn).once h.among
 
   -- the slot of a key is i exactly for the key that stands there
   slots : (b : ℕ) → eqb (place T t b) i ≡ eqb b k
   slots b = iff_eq (eqb (place T t b) i) (eqb b k) to (λ e. rw (eqb-true b k e) (eq-eqb (place T t k) i at_i))
     where
       to : eqb (place T t b) i ≡ true → eqb b k ≡ true
-      to e = elim (bool (in_row T.reads t (read_count T t) b)) [
+      to e = elim (bool (in_row (read_row T t) (read_count T t) b)) [
         | inl y ↦
-            let (l, q) = slot_is T.reads t (read_count T t) b (g.reads t h.txn).few y in
+            let (l, q) = slot_is (read_row T t) (read_count T t) b (g.reads t h.txn).few y in
             eq-eqb b k (sym q ∙ ap (read_key T t) (eqb-true (place T t b) i e))
-        | inr y ↦ absurd (omega (arith, slot_none T.reads t (read_count T t) b (g.reads t h.txn).few y, eqb-true (place T t b) i e, short))
+        | inr y ↦ absurd (omega (arith, slot_none (read_row T t) (read_count T t) b (g.reads t h.txn).few y, eqb-true (place T t b) i e, short))
       ]
 
   -- a cell of the reads set, by key

@@ -16,7 +16,7 @@ use Rattle.parts.specs.Cells.{place_in, nobody}
 use Rattle.bounded.specs.Bounded.{all_below, least_below}
 use Rattle.bounded.proofs.Truth.{and-true, clash, passed, and-false}
 use Rattle.bounded.proofs.Laws.{all_get, first-is, sum_less}
-use Rattle.tables.specs.Lists.{read_count}
+use Rattle.tables.specs.Lists.{read_count, read_row}
 use Rattle.tables.specs.declared.Tables.{Tables}
 use Rattle.steps.specs.Kinds.{place}
 use Rattle.steps.specs.declared.Place.{Place}
@@ -135,8 +135,8 @@ module _ (st : State) (t : ℕ) (g : Taken st.tables) (z : Arrays st) (h : Ready
   -- each read of t is recorded
   all_read : (k : ℕ) → (table_of T).reads t k ≡ true → (view_of T st).recorded t k ≡ true
   all_read k r =
-      let (i, a, l, e) = listed_get T.txns t (read_count T t) k T.reads r in
-      let b : slot T.reads t (read_count T t) k ≡ i = subst (λ k. slot T.reads t (read_count T t) k ≡ i) e (slot_at T.reads t (read_count T t) i (g.reads t a).few (g.reads t a).once l) in
+      let (i, a, l, e) = listed_get T.txns t (read_count T t) k (read_row T t) r in
+      let b : slot (read_row T t) (read_count T t) k ≡ i = subst (λ k. slot (read_row T t) (read_count T t) k ≡ i) e (slot_at (read_row T t) (read_count T t) i (g.reads t a).few (g.reads t a).once l) in
       rw (b, cell_in 8 false st.parts.recorded t i (omega (arith, (g.reads t a).few))) (h.reads i l)
 
 pub submit_step : (st : State) (t : ℕ) → Taken st.tables → Arrays st → Sound st → submit_refusal st t ≡ 0

@@ -11,7 +11,7 @@ use Rattle.queues.specs.Queue.{precedes, head_in}
 use Rattle.bounded.specs.Bounded.{any_below}
 use Rattle.bounded.proofs.Truth.{and-true, and_put, or-true, or-false, bool}
 use Rattle.bounded.proofs.Laws.{any_get, any_put, any_none, all_get, all_put, all_none, any_lack}
-use Rattle.tables.specs.Lists.{read_count, read_key}
+use Rattle.tables.specs.Lists.{read_count, read_key, read_row}
 use Rattle.tables.specs.Sites.{site_count, holds}
 use Rattle.tables.specs.declared.Tables.{Tables}
 use Rattle.rules.specs.Votes.{covers_key, covered_in, all_yes_in, verdict_by}
@@ -33,7 +33,7 @@ module _ (st : State) (g : Taken st.tables) (w : Sound st) (t s : ℕ) (txn : t 
   v = view_of T st
 
   abbrev covered_at : Bool
-  covered_at = covered_in (cast_by st t s) (carried_to st t s) T.sizes T.masks T.groups T.reads (read_count T t) (site_count T) t s
+  covered_at = covered_in (cast_by st t s) (carried_to st t s) T.group T.groups (read_row T t) (read_count T t) (site_count T) s
 
   abbrev agreed : Bool
   agreed = all_yes_in st.parts.cast (carried_to st t s) (site_count T) t s
@@ -54,7 +54,7 @@ module _ (st : State) (g : Taken st.tables) (w : Sound st) (t s : ℕ) (txn : t 
   covered_get : covered_at ≡ true → Covered (table_of T) v s t
   unfolding covered_in covers_key
   covered_get h k r =
-      let (i, a, l, e) = listed_get T.txns t (read_count T t) k T.reads r in
+      let (i, a, l, e) = listed_get T.txns t (read_count T t) k (read_row T t) r in
       let x = all_get (read_count T t) (λ i. any_below (site_count T) (λ f. holds_vote_of st t s f && holds T f (read_key T t i))) h i l in
       let (f, m, y) = any_get (site_count T) (λ f. holds_vote_of st t s f && holds T f (read_key T t i)) x in
       let (p, q) = and-true (holds_vote_of st t s f) (holds T f (read_key T t i)) y in
@@ -63,7 +63,7 @@ module _ (st : State) (g : Taken st.tables) (w : Sound st) (t s : ℕ) (txn : t 
   covered_put : Covered (table_of T) v s t → covered_at ≡ true
   unfolding covered_in covers_key
   covered_put c = all_put (read_count T t) (λ i. any_below (site_count T) (λ f. holds_vote_of st t s f && holds T f (read_key T t i))) (λ i l.
-      let (f, p, q) = c (read_key T t i) (listed_put T.txns t (read_count T t) i T.reads txn l) in
+      let (f, p, q) = c (read_key T t i) (listed_put T.txns t (read_count T t) i (read_row T t) txn l) in
       any_put (site_count T) (λ f. holds_vote_of st t s f && holds T f (read_key T t i)) f (holds_site T f (read_key T t i) q)
       (and_put (holds_vote_of st t s f) (holds T f (read_key T t i)) (sym (held_is f) ∙ p) q))
 
@@ -97,7 +97,7 @@ module _ (st : State) (g : Taken st.tables) (w : Sound st) (t s : ℕ) (txn : t 
   unread e = (λ k r. absurd (none k r), λ f p. absurd (let (k, r, h) = seat T f t (voter_of_lem T st w f t (held_site f p).1) in none k r))
     where
       none : (k : ℕ) → (table_of T).reads t k ≡ true → ⊥
-      none k r = let (i, a, l, q) = listed_get T.txns t (read_count T t) k T.reads r in omega arith
+      none k r = let (i, a, l, q) = listed_get T.txns t (read_count T t) k (read_row T t) r in omega arith
 
   pub verdict_known : (verdict st t s ≡ 0 → ⊥) → (base_verdicts (table_of T)).known v s t (verdict st t s)
   unfolding verdict_by

@@ -14,7 +14,7 @@ use Rattle.bounded.specs.Bounded.{all_below}
 use Rattle.bounded.proofs.Truth.{and-true, and_put, or-true, or-false, or_left, or_right}
 use Rattle.bounded.proofs.Laws.{any_get, any_put, all_get, all_none}
 use Rattle.keys.specs.Keys.{member}
-use Rattle.tables.specs.Lists.{row_at, in_row, read_count, read_key, write_count, write_key}
+use Rattle.tables.specs.Lists.{row_at, in_row, read_count, read_key, write_count, write_key, read_row, write_row}
 use Rattle.tables.specs.Sites.{site_count, site_keys, holds}
 use Rattle.tables.specs.Concern.{some_in, all_in, votes, touches, concerns, inside, holds_all, local}
 use Rattle.tables.specs.declared.Tables.{Tables}
@@ -36,51 +36,51 @@ use Rattle.demands.proofs.Cells.{cell}
 -- ---- the tables fit
 
 -- what a row of a transaction lists
-pub listed_get : (txns t n k : ℕ) (row : List ℕ) → (ltb t txns && in_row row t n k) ≡ true → (i : ℕ) × (t < txns) × (i < n) × (row_at row t i ≡ k)
+pub listed_get : (txns t n k : ℕ) (row : List ℕ) → (ltb t txns && in_row row n k) ≡ true → (i : ℕ) × (t < txns) × (i < n) × (row_at row i ≡ k)
 unfolding in_row
 listed_get txns t n k row h =
-    let (a, b) = and-true (ltb t txns) (in_row row t n k) h in
-    let (i, l, e) = any_get n (λ i. eqb (row_at row t i) k) b in
-    (i, ltb-true t txns a, l, eqb-true (row_at row t i) k e)
+    let (a, b) = and-true (ltb t txns) (in_row row n k) h in
+    let (i, l, e) = any_get n (λ i. eqb (row_at row i) k) b in
+    (i, ltb-true t txns a, l, eqb-true (row_at row i) k e)
 
-pub listed_put : (txns t n i : ℕ) (row : List ℕ) → t < txns → i < n → (ltb t txns && in_row row t n (row_at row t i)) ≡ true
-listed_put txns t n i row a l = and_put (ltb t txns) (in_row row t n (row_at row t i)) (lt-ltb t txns a) (in-row row t n i l)
+pub listed_put : (txns t n i : ℕ) (row : List ℕ) → t < txns → i < n → (ltb t txns && in_row row n (row_at row i)) ≡ true
+listed_put txns t n i row a l = and_put (ltb t txns) (in_row row n (row_at row i)) (lt-ltb t txns a) (in-row row n i l)
 
 -- who holds a listed key
-pub some_put : (txns t n k m : ℕ) (row : List ℕ) → (ltb t txns && in_row row t n k) ≡ true → member m k ≡ true → some_in row t n m ≡ true
+pub some_put : (txns t n k m : ℕ) (row : List ℕ) → (ltb t txns && in_row row n k) ≡ true → member m k ≡ true → some_in row n m ≡ true
 unfolding some_in
 some_put txns t n k m row r h =
     let (i, a, l, e) = listed_get txns t n k row r in
-    any_put n (λ i. member m (row_at row t i)) i l (subst (λ j. member m j ≡ true) (sym e) h)
+    any_put n (λ i. member m (row_at row i)) i l (subst (λ j. member m j ≡ true) (sym e) h)
 
-pub some-get : (t n m : ℕ) (row : List ℕ) → some_in row t n m ≡ true → (i : ℕ) × (i < n) × (member m (row_at row t i) ≡ true)
+pub some-get : (t n m : ℕ) (row : List ℕ) → some_in row n m ≡ true → (i : ℕ) × (i < n) × (member m (row_at row i) ≡ true)
 unfolding some_in
-some-get t n m row h = any_get n (λ i. member m (row_at row t i)) h
+some-get t n m row h = any_get n (λ i. member m (row_at row i)) h
 
 module _ (T : Tables) where
   -- R(t) has who holds a key that t reads or writes, and only sites
   pub reader : (s t k : ℕ) → (table_of T).reads t k ≡ true → holds T s k ≡ true → concerns T t s ≡ true
   unfolding touches
-  reader s t k r h = or_left (some_in T.reads t (read_count T t) (site_keys T s)) _ (some_put T.txns t (read_count T t) k (site_keys T s) T.reads r h)
+  reader s t k r h = or_left (some_in (read_row T t) (read_count T t) (site_keys T s)) _ (some_put T.txns t (read_count T t) k (site_keys T s) (read_row T t) r h)
 
   pub writer : (s t k : ℕ) → (table_of T).writes t k ≡ true → holds T s k ≡ true → concerns T t s ≡ true
   unfolding touches
-  writer s t k w h = or_right (some_in T.reads t (read_count T t) (site_keys T s)) _ (some_put T.txns t (write_count T t) k (site_keys T s) T.writes w h)
+  writer s t k w h = or_right (some_in (read_row T t) (read_count T t) (site_keys T s)) _ (some_put T.txns t (write_count T t) k (site_keys T s) (write_row T t) w h)
 
   pub known : (s t : ℕ) → concerns T t s ≡ true → s < site_count T
   unfolding touches
-  known s t h = elim (or-true (some_in T.reads t (read_count T t) (site_keys T s)) (some_in T.writes t (write_count T t) (site_keys T s)) h) [
-    | inl a ↦ let (i, l, m) = some-get t (read_count T t) (site_keys T s) T.reads a in holds_site T s (read_key T t i) m
-    | inr a ↦ let (i, l, m) = some-get t (write_count T t) (site_keys T s) T.writes a in holds_site T s (write_key T t i) m
+  known s t h = elim (or-true (some_in (read_row T t) (read_count T t) (site_keys T s)) (some_in (write_row T t) (write_count T t) (site_keys T s)) h) [
+    | inl a ↦ let (i, l, m) = some-get t (read_count T t) (site_keys T s) (read_row T t) a in holds_site T s (read_key T t i) m
+    | inr a ↦ let (i, l, m) = some-get t (write_count T t) (site_keys T s) (write_row T t) a in holds_site T s (write_key T t i) m
   ]
 
   -- each site of a local transaction holds all that it reads
   pub whole : (s t k : ℕ) → local T t ≡ true → concerns T t s ≡ true → (table_of T).reads t k ≡ true → holds T s k ≡ true
   unfolding local inside all_in
   whole s t k lo c r =
-      let (i, a, l, e) = listed_get T.txns t (read_count T t) k T.reads r in
+      let (i, a, l, e) = listed_get T.txns t (read_count T t) k (read_row T t) r in
       let h = rw c at (all_get (site_count T) (λ s. not (concerns T t s) || holds_all T t s) lo s (known s t c)) in
-      let x = (and-true (all_in T.reads t (read_count T t) (site_keys T s)) (all_in T.writes t (write_count T t) (site_keys T s)) h).0 in
+      let x = (and-true (all_in (read_row T t) (read_count T t) (site_keys T s)) (all_in (write_row T t) (write_count T t) (site_keys T s)) h).0 in
       subst (λ j. holds T s j ≡ true) e (all_get (read_count T t) (λ i. member (site_keys T s) (read_key T t i)) x i l)
 
   pub fit : Fit (table_of T)
@@ -92,20 +92,20 @@ module _ (T : Tables) where
 
   pub seats : (s t k : ℕ) → (table_of T).reads t k ≡ true → holds T s k ≡ true → voter_of s t ≡ true
   seats s t k r h =
-      let (i, a, l, e) = listed_get T.txns t (read_count T t) k T.reads r in
-      and_put (ltb t T.txns) (votes T t s) (lt-ltb t T.txns a) (some_put T.txns t (read_count T t) k (site_keys T s) T.reads r h)
+      let (i, a, l, e) = listed_get T.txns t (read_count T t) k (read_row T t) r in
+      and_put (ltb t T.txns) (votes T t s) (lt-ltb t T.txns a) (some_put T.txns t (read_count T t) k (site_keys T s) (read_row T t) r h)
 
   pub seat : (s t : ℕ) → voter_of s t ≡ true → (k : ℕ) × ((table_of T).reads t k ≡ true) × (holds T s k ≡ true)
   seat s t v =
       let (a, b) = and-true (ltb t T.txns) (votes T t s) v in
-      let (i, l, m) = some-get t (read_count T t) (site_keys T s) T.reads b in
-      (read_key T t i, listed_put T.txns t (read_count T t) i T.reads (ltb-true t T.txns a) l, m)
+      let (i, l, m) = some-get t (read_count T t) (site_keys T s) (read_row T t) b in
+      (read_key T t i, listed_put T.txns t (read_count T t) i (read_row T t) (ltb-true t T.txns a) l, m)
 
   pub kept : Taken T → Kept (table_of T) (local T) (λ _. true)
   kept g = record {
     reader = reader;
     holder = λ t k r.
-        let (i, a, l, e) = listed_get T.txns t (read_count T t) k T.reads r in
+        let (i, a, l, e) = listed_get T.txns t (read_count T t) k (read_row T t) r in
         let (f, h) = g.held k (subst (λ j. j < T.keys) e ((g.reads t a).low i l)) in (f, h, refl);
     whole = whole;
   }
@@ -131,13 +131,13 @@ module _ (T : Tables) where
     vote = vote_by;
     says = λ x y s t k r h. rw (seats s t k r h) (some (all_below (read_count T t) (matching x y s t)));
     yes = λ x y s t e k r h.
-        let (i, a, l, d) = listed_get T.txns t (read_count T t) k T.reads r in
+        let (i, a, l, d) = listed_get T.txns t (read_count T t) k (read_row T t) r in
         subst (λ j. (x j).0 ≡ (y j).0) d (match x y s (read_key T t i) (all_get (read_count T t) (matching x y s t) (all_yes (voter_of s t) (all_below (read_count T t) (matching x y s t)) e) i l) (subst (λ j. holds T s j ≡ true) (sym d) h));
     no = λ x y s t h.
         let (v, n) = one_no (voter_of s t) (all_below (read_count T t) (matching x y s t)) h in
         let (i, l, e) = all_none (read_count T t) (matching x y s t) n in
         let (a, b) = differ x y s (read_key T t i) e in
-        (read_key T t i, listed_put T.txns t (read_count T t) i T.reads (ltb-true t T.txns (and-true (ltb t T.txns) (votes T t s) v).0) l, a, b);
+        (read_key T t i, listed_put T.txns t (read_count T t) i (read_row T t) (ltb-true t T.txns (and-true (ltb t T.txns) (votes T t s) v).0) l, a, b);
     seat = λ x y s t h. seat s t (votes_only (voter_of s t) (cond (all_below (read_count T t) (matching x y s t)) 1 2) h);
   }
     where
@@ -182,7 +182,7 @@ module _ (T : Tables) where
 
   -- where k stands among what t reads
   abbrev pub place : ℕ → ℕ → ℕ
-  place t k = slot T.reads t (read_count T t) k
+  place t k = slot (read_row T t) (read_count T t) k
 
   abbrev pub view_of : State → View
   view_of st = record {

@@ -3,9 +3,9 @@ use Rattle.std.specs.Prelude.{ℕ, List, [], ◌∷◌, ◌++◌, ◌≡◌, ref
 use Rattle.queues.specs.Queue.{head_in, blocked_in, next_in, submitted_in}
 use Rattle.bounded.specs.Bounded.{any_below, all_below, sum_below, first_below, first_of, list_from}
 use Rattle.keys.specs.Keys.{member, within, adding}
-use Rattle.tables.specs.Empty.{no_tables}
+use Rattle.tables.specs.Empty.{empty_txn, no_tables}
 use Rattle.tables.specs.Lists.{in_row, twice, present, meets, conflict_in}
-use Rattle.tables.specs.Sites.{keys_from}
+use Rattle.tables.specs.Sites.{no_group, keys_from}
 use Rattle.tables.specs.Concern.{some_in, all_in, touches, inside, local}
 use Rattle.tables.specs.Judge.{keys_refusal, size_refusal, count_refusal, key_refusal, txn_refusal, some_group, end_refusal, judge}
 use Rattle.tables.specs.declared.Tables.{Tables}
@@ -36,14 +36,12 @@ tables = record {
   keys = 2;
   first = 100 ∷ 200 ∷ replicate 62 0;
   groups = 2;
-  sizes = 1 ∷ 1 ∷ replicate 6 0;
-  masks = 1 ∷ 2 ∷ replicate 6 0;
+  group = record { sites = 1; keys = 1 } ∷ record { sites = 1; keys = 2 } ∷ replicate 6 no_group;
   txns = 2;
-  nreads = 1 ∷ 1 ∷ replicate 126 0;
-  reads = replicate 8 0 ++ 1 ∷ replicate 1015 0;
-  nwrites = 1 ∷ 1 ∷ replicate 126 0;
-  writes = 1 ∷ replicate 1023 0;
-  gives = 7 ∷ replicate 7 0 ++ 9 ∷ replicate 1015 0;
+  txn =
+      record { reads = record { count = 1; keys = replicate 8 0 }; writes = record { count = 1; keys = 1 ∷ replicate 7 0 }; values = 7 ∷ replicate 7 0 }
+      ∷ record { reads = record { count = 1; keys = 1 ∷ replicate 7 0 }; writes = record { count = 1; keys = replicate 8 0 }; values = 9 ∷ replicate 7 0 }
+      ∷ replicate 126 empty_txn;
 }
 
 abbrev steps : List Step

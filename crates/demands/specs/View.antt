@@ -2,7 +2,7 @@
 use Rattle.std.specs.Prelude.{ℕ, Bool, ◌&&◌, List, eqb, ltb, get_or}
 use Rattle.parts.specs.Cells.{place_in, nobody}
 use Rattle.bounded.specs.Bounded.{any_below, least_below}
-use Rattle.tables.specs.Lists.{row_at, in_row, read_count, write_count, write_value}
+use Rattle.tables.specs.Lists.{row_at, in_row, read_count, write_count, write_value, read_row, write_row}
 use Rattle.tables.specs.Sites.{site_count, holds}
 use Rattle.tables.specs.Concern.{concerns}
 use Rattle.tables.specs.declared.Tables.{Tables}
@@ -11,9 +11,9 @@ use Rattle.machine.specs.Parts.{place_of, closed_at}
 use Rattle.machine.specs.declared.State.{State}
 use Rattle.onecopy.specs.Copy.{Table, Order, one_copy}
 
--- where k stands among the first n of row t; 8 where it does not
-unfoldable pub slot : List ℕ → ℕ → ℕ → ℕ → ℕ
-slot row t n k = least_below n (λ i. eqb (row_at row t i) k) 8
+-- where k stands among the first n of a list; 8 where it does not
+unfoldable pub slot : List ℕ → ℕ → ℕ → ℕ
+slot row n k = least_below n (λ i. eqb (row_at row i) k) 8
 
 -- who holds which key, which sites a transaction concerns, what it reads, writes and gives; first values
 abbrev pub table_of : Tables → Table
@@ -21,9 +21,9 @@ table_of T = record {
   sites = site_count T;
   holds = holds T;
   concerns = λ s t. concerns T t s;
-  reads = λ t k. ltb t T.txns && in_row T.reads t (read_count T t) k;
-  writes = λ t k. ltb t T.txns && in_row T.writes t (write_count T t) k;
-  gives = λ t k. write_value T t (slot T.writes t (write_count T t) k);
+  reads = λ t k. ltb t T.txns && in_row (read_row T t) (read_count T t) k;
+  writes = λ t k. ltb t T.txns && in_row (write_row T t) (write_count T t) k;
+  gives = λ t k. write_value T t (slot (write_row T t) (write_count T t) k);
   first = λ k. get_or T.first k 0;
 }
 

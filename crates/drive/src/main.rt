@@ -4,7 +4,7 @@
 use machine::State;
 use std::io;
 use steps::{Numbers, Step};
-use tables::Tables;
+use tables::{Group, Tables};
 
 // The state after a step, whose answer is printed.
 fn go(rt: &HostRuntime, st: State, x: Step) -> io::Result<State> {
@@ -28,23 +28,20 @@ fn keys() -> Tables {
 fn case_g(rt: &HostRuntime) -> io::Result<()> {
     let mut t = keys();
     t.groups = 3;
-    t.sizes[0] = 1;
-    t.sizes[1] = 1;
-    t.sizes[2] = 1;
-    t.masks[0] = 3;
-    t.masks[1] = 6;
-    t.masks[2] = 5;
+    t.group[0] = Group { sites: 1, keys: 3 };
+    t.group[1] = Group { sites: 1, keys: 6 };
+    t.group[2] = Group { sites: 1, keys: 5 };
     t.txns = 2;
-    t.nreads[0] = 1;
-    t.nreads[1] = 1;
-    t.nwrites[0] = 2;
-    t.nwrites[1] = 2;
-    t.writes[1] = 1;
-    t.writes[9] = 2;
-    t.gives[0] = 11;
-    t.gives[1] = 21;
-    t.gives[8] = 12;
-    t.gives[9] = 31;
+    t.txn[0].reads.count = 1;
+    t.txn[0].writes.count = 2;
+    t.txn[0].writes.keys[1] = 1;
+    t.txn[0].values[0] = 11;
+    t.txn[0].values[1] = 21;
+    t.txn[1].reads.count = 1;
+    t.txn[1].writes.count = 2;
+    t.txn[1].writes.keys[1] = 2;
+    t.txn[1].values[0] = 12;
+    t.txn[1].values[1] = 31;
     let mut st = State::fresh(t).state;
     st = go(rt, st, Step::Read { t: 0, i: 0, s: 0 })?;
     st = go(rt, st, Step::Read { t: 1, i: 0, s: 2 })?;
@@ -59,20 +56,18 @@ fn case_g(rt: &HostRuntime) -> io::Result<()> {
 fn case_i(rt: &HostRuntime) -> io::Result<()> {
     let mut t = keys();
     t.groups = 2;
-    t.sizes[0] = 1;
-    t.sizes[1] = 1;
-    t.masks[0] = 5;
-    t.masks[1] = 2;
+    t.group[0] = Group { sites: 1, keys: 5 };
+    t.group[1] = Group { sites: 1, keys: 2 };
     t.txns = 3;
-    t.nreads[0] = 1;
-    t.reads[0] = 1;
-    t.nwrites[0] = 1;
-    t.gives[0] = 11;
-    t.nreads[1] = 1;
-    t.reads[8] = 2;
-    t.nwrites[2] = 1;
-    t.writes[16] = 2;
-    t.gives[16] = 31;
+    t.txn[0].reads.count = 1;
+    t.txn[0].reads.keys[0] = 1;
+    t.txn[0].writes.count = 1;
+    t.txn[0].values[0] = 11;
+    t.txn[1].reads.count = 1;
+    t.txn[1].reads.keys[0] = 2;
+    t.txn[2].writes.count = 1;
+    t.txn[2].writes.keys[0] = 2;
+    t.txn[2].values[0] = 31;
     let mut st = State::fresh(t).state;
     st = go(rt, st, Step::Read { t: 1, i: 0, s: 0 })?;
     st = go(rt, st, Step::Submit(2))?;

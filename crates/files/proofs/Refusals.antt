@@ -1,12 +1,10 @@
 -- A refusal and its number, and what a record comes to where it is refused or not.
 -- Assumes nothing.
-use Rattle.std.proofs.Common.{ℕ, ◌≡◌, List, [], ◌∷◌, inl, inr, refl, Some, Result, Ok, Err, false, eqb}
-use borrow.Author.Tests.{eqb-false}
+use Rattle.std.proofs.Common.{ℕ, ◌≡◌, List, [], ◌∷◌, inl, inr, Some, Result, Ok, Err, Bool, true, false, cond, eqb}
 use types.Run.{OneOf}
 use Rattle.numbers.specs.Numbers.{file_number, file_answer, file_refusal}
-use Rattle.numbers.proofs.Laws.{file_called, file_refuses, file_above}
+use Rattle.numbers.proofs.Laws.{file_called, file_refuses}
 use Rattle.numbers.specs.declared.FileRefusal.{FileRefusal}
-use Rattle.numbers.specs.declared.FileRefusal.TheVariants.{TooLong, Cut, Misplaced, Length, Range, Twice, Unheld, NoRoom}
 use Rattle.tables.specs.declared.Tables.{Tables}
 use Rattle.std.specs.Result.{IsErrAnd}
 use Rattle.files.specs.Refusal.{misfit, placed}
@@ -15,7 +13,7 @@ use Rattle.records.specs.Judge.{judge_at}
 use Rattle.records.specs.declared.Record.{Record}
 use Rattle.files.specs.Walk.{stop}
 use Rattle.files.specs.Schedule.{schedule_by}
-use Rattle.files.specs.Setup.{in_setup, reading, kept, taken, ended, turn_of}
+use Rattle.files.specs.Setup.{in_setup, reading, accepted, taken, ended, turn_of}
 use Rattle.tables.specs.Judge.{end_refusal}
 
 -- the numbers that refuse a record
@@ -53,16 +51,25 @@ module _ (at : ℕ) (e : Misfit) where
   judged_err T s (Err why) h p = let q : e ≡ misfit why at = cc in rw (q, ← h)
 
 -- one that is
-module _ (T : Tables) (at n : ℕ) (new : Tables) (next : ℕ) where
-  pub taken_ok : (r : Result (Unit {0}) FileRefusal) → file_answer r ≡ n → Ok tt ≡ placed r at → reading (Ok (Some next)) (kept r new T) ≡ taken T at n new next
-  unfolding taken
-  taken_ok (Ok _) h p = rw (← h)
-  taken_ok (Err why) h p = cc
+pub accepted_err : (n : ℕ) (new : Tables) (why : FileRefusal) → file_number why ≡ n → Err why ≡ accepted n new
+accepted_err n new why h = rw (← h, file_refuses why, file_called why)
 
-  pub taken_err : (e : Misfit) (r : Result (Unit {0}) FileRefusal) → file_answer r ≡ n → Err e ≡ placed r at → reading (Err e) (kept r new T) ≡ taken T at n new next
+module _ (T : Tables) (at n : ℕ) (new : Tables) (next : ℕ) (r : Result Tables FileRefusal) (j : r ≡ accepted n new) where
+  pub taken_ok : (x : Tables) → Ok x ≡ placed r at → reading (Ok (Some next)) x ≡ taken T at n new next
   unfolding taken
-  taken_err e (Ok _) h p = cc
-  taken_err e (Err why) h p = let q : e ≡ misfit why at = cc in rw (q, ← h, file_refuses why, file_called why)
+  taken_ok x p = by (eqb n 0) (rw j at p)
+    where
+      by : (b : Bool) → Ok x ≡ placed (cond b (Ok new) (Err (file_refusal n))) at → reading (Ok (Some next)) x ≡ cond b (reading (Ok (Some next)) new) (reading (Err (misfit (file_refusal n) at)) T)
+      by true q = cc
+      by false q = cc
+
+  pub taken_err : (e : Misfit) → Err e ≡ placed r at → reading (Err e) T ≡ taken T at n new next
+  unfolding taken
+  taken_err e p = by (eqb n 0) (rw j at p)
+    where
+      by : (b : Bool) → Err e ≡ placed (cond b (Ok new) (Err (file_refusal n))) at → reading (Err e) T ≡ cond b (reading (Ok (Some next)) new) (reading (Err (misfit (file_refusal n) at)) T)
+      by true q = cc
+      by false q = cc
 
 -- END
 pub ended_err : (T : Tables) (s : List ℕ) (at next : ℕ) (e : Misfit) (r : Result (Unit {0}) FileRefusal) → file_answer r ≡ end_refusal T → Err e ≡ placed r at → reading (Err e) T ≡ ended T s at next

@@ -1,13 +1,13 @@
 -- What one record of a setup comes to: refused, taken into the tables, or END.
 -- Assumes nothing.
-use Rattle.std.proofs.Common.{Some, None, Ok, Err, ℕ, suc, ◌<◌, ◌≤◌, Bool, true, false, ◌&&◌, ◌||◌, not, cond, List, ◌≡◌, refl, inl, inr, eqb, leb, ltb, length, get_or, eqb-true, leb-false}
+use Rattle.std.proofs.Common.{Some, None, Ok, Err, ℕ, suc, ◌<◌, ◌≤◌, Bool, true, false, ◌&&◌, ◌||◌, not, cond, List, ◌≡◌, refl, inl, inr, eqb, leb, ltb, length, eqb-true, leb-false}
 use types.Run.{OneOf, hit}
 use borrow.Author.Tests.{eqb-false}
 use Rattle.bounded.specs.Bounded.{all_below, or_else}
 use Rattle.bounded.proofs.Truth.{clash}
 use Rattle.keys.specs.Keys.{within}
-use Rattle.tables.specs.Lists.{present, twice, read_count, write_count}
-use Rattle.tables.specs.Sites.{sites_in}
+use Rattle.tables.specs.Lists.{present, twice, read_row, read_count, write_row, write_count}
+use Rattle.tables.specs.Sites.{size_in, mask_in, sites_in}
 use Rattle.tables.specs.Judge.{size_refusal, group_refusal, count_refusal, key_refusal, txn_refusal, some_group, end_refusal}
 use Rattle.tables.specs.declared.Tables.{Tables}
 use Rattle.records.specs.declared.Record.{Record}
@@ -39,9 +39,9 @@ one m o false h = absurd (h refl)
 group_number : (T : Tables) (g : ℕ) → (group_refusal T g ≡ 0 → ⊥) → OneOf record_numbers (group_refusal T g)
 unfolding size_refusal
 group_number T g h =
-    let size = get_or T.sizes g 0 in
-    let mask = get_or T.masks g 0 in
-    one 5 (hit record_numbers 5 tt) (leb 8 g || (eqb size 0 || (ltb 16 (sites_in T.sizes (suc g)) || (eqb mask 0 || not (within mask T.keys))))) h
+    let size = size_in T.group g in
+    let mask = mask_in T.group g in
+    one 5 (hit record_numbers 5 tt) (leb 8 g || (eqb size 0 || (ltb 16 (sites_in T.group (suc g)) || (eqb mask 0 || not (within mask T.keys))))) h
 
 -- an absent key before a key twice
 txn_number : (T : Tables) (t : ℕ) → (txn_refusal T t ≡ 0 → ⊥) → OneOf record_numbers (txn_refusal T t)
@@ -50,8 +50,8 @@ txn_number T t =
     let r = read_count T t in
     let w = write_count T t in
     by (leb 128 t || (ltb 8 r || (ltb 8 w || (eqb r 0 && eqb w 0))))
-    (present T.reads t r T.keys && present T.writes t w T.keys)
-    (twice T.reads t r || twice T.writes t w)
+    (present (read_row T t) r T.keys && present (write_row T t) w T.keys)
+    (twice (read_row T t) r || twice (write_row T t) w)
   where
     by : (a p q : Bool) → (or_else (cond a 5 0) (cond p (cond q 6 0) 5) ≡ 0 → ⊥) → OneOf record_numbers (or_else (cond a 5 0) (cond p (cond q 6 0) 5))
     by true p q h = hit record_numbers 5 tt
@@ -60,7 +60,7 @@ txn_number T t =
 
 end_number : (T : Tables) → (end_refusal T ≡ 0 → ⊥) → OneOf record_numbers (end_refusal T)
 unfolding end_refusal
-end_number T = by (all_below T.keys (some_group T.masks T.groups))
+end_number T = by (all_below T.keys (some_group T.group T.groups))
   where
     by : (b : Bool) → (◌≡◌ {A = ℕ} (cond b 0 7) 0 → ⊥) → OneOf record_numbers (cond b 0 7)
     by true h = absurd (h refl)

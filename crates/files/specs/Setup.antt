@@ -33,10 +33,9 @@ pub record Turned : Type 0 where
 abbrev pub reading : Result (Option ℕ) Misfit → Tables → Turned
 reading p T = record { next = p; tables = T }
 
--- the new tables, or where there is a refusal the old ones
-abbrev pub kept : Result (Unit {0}) FileRefusal → Tables → Tables → Tables
-kept (Ok _) new old = new
-kept (Err _) new old = old
+-- the new tables with a record, or the refusal of number n
+abbrev pub accepted : ℕ → Tables → Result Tables FileRefusal
+accepted n new = cond (eqb n 0) (Ok new) (Err (file_refusal n))
 
 -- the record at at is refused with n, the tables being as they were, or with 0 taken: on to next with the new tables
 unfoldable pub taken : Tables → ℕ → ℕ → Tables → ℕ → Turned

@@ -2,7 +2,6 @@
 #![tactic(auto)]
 
 ghost use Rattle.std.specs.Prelude.{◌≡◌, ◌≢◌, ◌+◌, ◌<◌, ◌≤◌, true, length, drop, Ok, Err};
-ghost use Rattle.numbers.specs.Numbers.{file_answer};
 ghost use Rattle.tables.specs.Empty.{no_tables};
 ghost use Rattle.tables.specs.Judge.{group_refusal, txn_refusal};
 ghost use Rattle.records.specs.Rule.{pairs_length, fits};
@@ -10,14 +9,14 @@ ghost use Rattle.records.specs.Judge.{judge_at};
 ghost use Rattle.files.specs.Refusal.{placed};
 ghost use Rattle.files.specs.Cut.{cut_of};
 ghost use Rattle.files.specs.Rows.{with_keys, with_group, with_txn, reads_of, writes_of};
-ghost use Rattle.files.specs.Setup.{in_setup, kept, record_refusal, with_record, reading, ended, turn_of, setup_read, read_from, read_setup};
+ghost use Rattle.files.specs.Setup.{in_setup, accepted, record_refusal, with_record, reading, ended, turn_of, setup_read, read_from, read_setup};
 ghost use Rattle.files.specs.Schedule.{in_schedule, read_schedule, step_by};
 ghost use Rattle.files.specs.File.{parts_by, file_of, rest_of};
 
 use numbers::FileRefusal;
 use records::{Field, Record};
 use steps::Step;
-use tables::Tables;
+use tables::{Group, Tables};
 
 // Tags stay bytes: one that is met may be none of these, and each place asks of it only once.
 const KEYS: u8 = 0x01;
@@ -38,7 +37,7 @@ pub struct Misfit {
     pub at: usize,
 }
 
-// A setup's reading, with the tables read so far.
+// A setup's reading, with the tables read so far; a refusal gives them too.
 #[derive(Clone, Copy, Debug, PartialEq, Eq)]
 pub struct Setup {
     pub outcome: Result<(), Misfit>,
@@ -59,7 +58,7 @@ pub struct Refused {
     pub at: Where,
 }
 
-// A file's reading, with the tables read.
+// A file's reading, with the tables read; a refusal gives them too.
 #[derive(Clone, Copy, Debug, PartialEq, Eq)]
 pub struct File {
     pub outcome: Result<(), Refused>,
@@ -136,6 +135,7 @@ fn with_keys(t: Tables, s: &[u8], start: usize, len: usize) -> Tables
 {
     let n = len / 4;
     let mut next = t;
+    // 64 at most.
     next.keys = n as u8;
     records::put_row(&mut next.first, 0, n, s, start, 4);
     next
@@ -146,11 +146,12 @@ fn with_group(t: Tables, s: &[u8], start: usize) -> Tables
     requires { (start + 9 ≤ length s.now) × (t.groups < 8) }
     ensures { result ≡ with_group t s.now start }
 {
-    let g = usize::from(t.groups);
     let mut next = t;
     next.groups = t.groups + 1;
-    next.sizes[g] = s[start];
-    next.masks[g] = u64::read(s, start + 1);
+    next.group[usize::from(t.groups)] = Group {
+        sites: s[start],
+        keys: u64::read(s, start + 1),
+    };
     next
 }
 
@@ -160,63 +161,58 @@ fn with_txn(t: Tables, s: &[u8], start: usize) -> Tables
     requires start_bound { (reads_of s.now start ≤ 8) × (writes_of s.now start ≤ 8) }
     ensures { result ≡ with_txn t s.now start }
 {
-    let x = usize::from(t.txns);
-    let base = x * 8;
     let n = usize::from(s[start]);
     let at = start + 1 + n;
     let m = usize::from(s[at]);
+    let x = usize::from(t.txns);
+    let mut txn = t.txn[x];
+    txn.reads.count = s[start];
+    records::put_row(&mut txn.reads.keys, 0, n, s, start + 1, 1);
+    txn.writes.count = s[at];
+    records::put_row(&mut txn.writes.keys, 0, m, s, at + 1, 5);
+    records::put_row(&mut txn.values, 0, m, s, at + 2, 5);
     let mut next = t;
     next.txns = t.txns + 1;
-    next.nreads[x] = s[start];
-    records::put_row(&mut next.reads, base, n, s, start + 1, 1);
-    next.nwrites[x] = s[at];
-    records::put_row(&mut next.writes, base, m, s, at + 1, 5);
-    records::put_row(&mut next.gives, base, m, s, at + 2, 5);
+    next.txn[x] = txn;
     next
 }
 
 // A GROUP is judged as it stands in the tables with it; there is no place for a ninth.
-fn take_group(t: &mut Tables, s: &[u8], start: usize) -> Result<(), FileRefusal>
+fn take_group(t: Tables, s: &[u8], start: usize) -> Result<Tables, FileRefusal>
     requires { start + 9 ≤ length s.now }
-    ensures why { file_answer result ≡ group_refusal (with_group t.old s.now start) t.old.groups }
-    ensures then { t.new ≡ kept result (with_group t.old s.now start) t.old }
+    ensures { result ≡ accepted (group_refusal (with_group t s.now start) t.groups) (with_group t s.now start) }
 {
     if 8 <= t.groups {
         return Err(FileRefusal::Range);
     }
-    let new = with_group(*t, s, start);
-    let g = usize::from(t.groups);
-    tables::group_refusal(t.keys, t.groups, new.sizes[g], new.sites(), new.masks[g])?;
-    *t = new;
-    Ok(())
+    let new = with_group(t, s, start);
+    let group = new.group[usize::from(t.groups)];
+    tables::group_refusal(t.keys, t.groups, group.sites, new.sites(), group.keys)?;
+    Ok(new)
 }
 
 // The counts of a TXN are judged first, then its keys as they stand in the tables with it.
-fn take_txn(t: &mut Tables, s: &[u8], start: usize) -> Result<(), FileRefusal>
+fn take_txn(t: Tables, s: &[u8], start: usize) -> Result<Tables, FileRefusal>
     requires { start + pairs_length s.now start ≤ length s.now }
-    ensures why { file_answer result ≡ txn_refusal (with_txn t.old s.now start) t.old.txns }
-    ensures then { t.new ≡ kept result (with_txn t.old s.now start) t.old }
+    ensures { result ≡ accepted (txn_refusal (with_txn t s.now start) t.txns) (with_txn t s.now start) }
 {
     let r = s[start];
     let w = s[start + 1 + usize::from(r)];
     tables::count_refusal(t.txns, r, w)?;
-    let new = with_txn(*t, s, start);
+    let new = with_txn(t, s, start);
     new.key_refusal(usize::from(t.txns))?;
-    *t = new;
-    Ok(())
+    Ok(new)
 }
 
-// A record before END is taken into the tables; refused, it leaves them as they were.
-fn take(t: &mut Tables, s: &[u8], r: Record) -> Result<(), FileRefusal>
+// A record before END: the tables with it, if they take it.
+fn take(t: Tables, s: &[u8], r: Record) -> Result<Tables, FileRefusal>
     requires lies { r.start + r.len ≤ length s.now }
     requires fitting { fits s.now r.tag r.start r.len ≡ true }
-    requires allowed { (in_setup t.old r.tag ≡ true) × (r.tag ≢ 0x0F) }
-    ensures why { file_answer result ≡ record_refusal t.old s.now r }
-    ensures then { t.new ≡ kept result (with_record t.old s.now r) t.old }
+    requires allowed { (in_setup t r.tag ≡ true) × (r.tag ≢ 0x0F) }
+    ensures { result ≡ accepted (record_refusal t s.now r) (with_record t s.now r) }
 {
     if r.tag == KEYS {
-        *t = with_keys(*t, s, r.start, r.len);
-        return Ok(());
+        return Ok(with_keys(t, s, r.start, r.len));
     }
     if r.tag == GROUP {
         return take_group(t, s, r.start);
@@ -248,7 +244,7 @@ fn turn(t: &mut Tables, s: &[u8], at: usize) -> Result<Option<usize>, Misfit>
     if record.tag == END {
         return ended(t, s, at, record.next);
     }
-    placed(take(t, s, record), at)?;
+    *t = placed(take(*t, s, record), at)?;
     Ok(Some(record.next))
 }
 
@@ -278,6 +274,7 @@ pub fn read_schedule(s: &[u8]) -> Result<(), Misfit>
     ensures { result ≡ read_schedule s.now }
 {
     let mut at: usize = 0;
+    // A record says where the next begins.
     while at != s.len() {
         let record = placed(judge_schedule(s, at), at)?;
         at = record.next;

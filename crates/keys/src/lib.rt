@@ -1,7 +1,7 @@
 // Sets as the bits of one number: keys are below 64, sites below 16.
 #![tactic(auto)]
 
-ghost use Rattle.std.specs.Prelude.{◌≡◌, false, ◌||◌, cond, ℕ, ◌<◌, eqb};
+ghost use Rattle.std.specs.Prelude.{◌≡◌, false, ◌||◌, cond, ℕ, ◌<◌, ◌≤◌, eqb};
 ghost use Rattle.keys.specs.Keys.{member, within, adding, meeting, including};
 
 pub fn has(m: u64, k: usize) -> bool
@@ -28,7 +28,8 @@ pub fn with(m: u64, k: usize) -> u64
 
 pub fn without(m: u64, k: usize) -> u64
     requires { k < 64 }
-    ensures { (f : ℕ) → member result f ≡ cond (eqb f k) false (member m f) }
+    ensures members { (f : ℕ) → member result f ≡ cond (eqb f k) false (member m f) }
+    ensures narrow { result ≤ m }
 {
     m & !(1u64 << k)
 }

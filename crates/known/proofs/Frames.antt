@@ -62,11 +62,11 @@ head_back places delivered delivered' closed closed' n t s h e =
     ]
 
 -- room looks at the versions of the keys that t writes
-pub room_same : (versions versions' : List Version) (writes : List ℕ) (w t s m : ℕ)
-    → ((i : ℕ) → i < w → version_in versions' s (row_at writes t i) ≡ version_in versions s (row_at writes t i))
-    → room_in versions' writes w t s m ≡ room_in versions writes w t s m
+pub room_same : (versions versions' : List Version) (writes : List ℕ) (w s m : ℕ)
+    → ((i : ℕ) → i < w → version_in versions' s (row_at writes i) ≡ version_in versions s (row_at writes i))
+    → room_in versions' writes w s m ≡ room_in versions writes w s m
 unfolding room_in
-room_same versions versions' writes w t s m h = all_same w _ _ (λ i l. rw (h i l))
+room_same versions versions' writes w s m h = all_same w _ _ (λ i l. rw (h i l))
 
 -- so what is closed after a change could be closed before it
 pub close_back : (T : Tables) (w w' : Seen) (t s : ℕ)

@@ -13,7 +13,7 @@ use Rattle.bounded.proofs.Truth.{or-true, or-false, and-true, and_put, bool, cla
 use Rattle.bounded.proofs.Laws.{any_none}
 use Rattle.bounded.proofs.Lists.{within, stored_true, replicated}
 use Rattle.keys.specs.Keys.{member}
-use Rattle.tables.specs.Lists.{write_count, write_key}
+use Rattle.tables.specs.Lists.{write_row, write_count, write_key}
 use Rattle.tables.specs.Sites.{site_count, site_keys}
 use Rattle.tables.specs.Concern.{concerns}
 use Rattle.tables.specs.Fits.{Fits}
@@ -23,6 +23,7 @@ use Rattle.rules.specs.Asked.{verdict_at}
 use Rattle.steps.specs.declared.Version.{Version}
 use Rattle.refusals.specs.Refusals.{deliver_refusal_in, carry_refusal_in}
 use Rattle.search.specs.Search.{Seen, closing, todo_in}
+use Rattle.search.specs.Within.{Within}
 use Rattle.search.specs.Known.{any, excludes, KnowsClosing, KnowsAt, PassedTo, closable_code, low_at, top_at, Knows}
 use Rattle.search.specs.declared.Closable.{Closable}
 use Rattle.search.specs.declared.Closable.TheVariants.{Nobody, Only, Anyone}
@@ -115,7 +116,7 @@ module _ (T : Tables) (fits : Fits T) (w : Seen) (versions : List Version) (t s 
         close_back T w w' u r refl (same_closed u r b (λ _ e. d e)) refl
         (λ x m q. rw (same_closed x r b (λ _ e. d e)) q)
         refl
-        (λ m. room_same w.versions versions T.writes (write_count T u) u r (site_keys T r) (λ i n. kept r (write_key T u i) d (written u i m n)))
+        (λ m. room_same w.versions versions (write_row T u) (write_count T u) r (site_keys T r) (λ i n. kept r (write_key T u i) d (written u i m n)))
         z
 
     delivers : (r : ℕ) → (r ≡ s → ⊥) → deliver_refusal_in T w.places w.delivered w'.closed r ≡ 0 → deliver_refusal_in T w.places w.delivered w.closed r ≡ 0
@@ -232,13 +233,13 @@ module _ (T : Tables) (fits : Fits T) (w : Seen) (t s v : ℕ) (next : todo_in T
         (λ _ u x. absurd (excludes_none any u refl x))
         (λ d u x z. k.closing r u x (votes_close e u r (λ _ q. d q) z)))
 
-    pub knows_delivered : (codes : List Closable) (p lower upper opener : ℕ) → get_or order p nobody ≡ t → t < T.txns → s < length l.top
+    pub knows_delivered : (codes : List Closable) (p lower upper opener : ℕ) (within : Within (set l.top.at s upper)) → get_or order p nobody ≡ t → t < T.txns → s < length l.top.at
         → (lower ≤ low_at l s) × (lower ≤ p)
         → (top_at l s ≤ upper) × (p < upper)
         → (opener ≤ l.open) × (opener ≤ p)
         → KnowsClosing T (delivered_parts w t s v) (map closable_code codes)
-        → Knows T (delivered_parts w t s v) order (record l { closable = codes; stuck = set l.stuck s false; low = set l.low s lower; top = set l.top s upper; passed = set l.passed t 0; «open» = opener })
-    knows_delivered codes p lower upper opener here txn b low top first closing = record {
+        → Knows T (delivered_parts w t s v) order (record l { closable = codes; stuck = set l.stuck s false; low = set l.low s lower; top = record { at = set l.top.at s upper; within = within }; passed = set l.passed t 0; «open» = opener })
+    knows_delivered codes p lower upper opener within here txn b low top first closing = record {
       ordered = k.ordered;
       closing = closing;
       stuck = λ r. after_store l.stuck s false false r (λ x. x ≡ true → deliver_refusal_in T w.places w'.delivered w.closed r ≡ 0 → ⊥)
@@ -252,7 +253,7 @@ module _ (T : Tables) (fits : Fits T) (w : Seen) (t s v : ℕ) (next : todo_in T
           (λ e m. queue (get_or order i nobody) r h (λ q _. apart i (λ a. absurd (omega (arith, low))) q) (k.low r i h (rw e (omega (arith, low)))))
           (λ _ m. absurd (omega arith))
           (λ d m. queue (get_or order i nobody) r h (λ _ e. d e) (k.low r i h m));
-      top = λ r i h. after_store l.top s upper 0 r (λ x. x ≤ i → queued_at w'.delivered w.closed order r i ≡ false)
+      top = λ r i h. after_store l.top.at s upper 0 r (λ x. x ≤ i → queued_at w'.delivered w.closed order r i ≡ false)
           (λ e m. queue (get_or order i nobody) r h (λ q _. apart i (λ a. absurd (omega (arith, top))) q) (k.top r i h (rw e (omega (arith, top)))))
           (λ m. absurd (omega arith))
           (λ d m. queue (get_or order i nobody) r h (λ _ e. d e) (k.top r i h m));

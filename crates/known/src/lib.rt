@@ -7,28 +7,27 @@ ghost use Rattle.plan.specs.Planned.{Laid, Planned};
 ghost use Rattle.parts.specs.Cells.{nobody};
 ghost use Rattle.parts.specs.Changed.{with_votes};
 ghost use Rattle.search.specs.Search.{Seen, seen, closing, todo_in, Deliver, Carry};
-ghost use Rattle.search.specs.Known.{closable_code, Knows, Ranged};
+ghost use Rattle.search.specs.Known.{closable_code, Knows};
 ghost use Rattle.tables.specs.declared.Tables.{Tables};
 ghost use Rattle.known.specs.After.{shared, joined, Closed, delivered_parts, carried_parts, Carried};
 
 use order::Order;
 use parts::Parts;
 use plan::Plan;
-use search::{Closable, Known};
+use search::{Closable, Known, Positions};
 
 // ---- at first
 
 // At first nothing.
 pub fn first_known() -> Known
-    ensures knows { (T : Tables) (w : Seen) (order : List ℕ) → Ordered w.places T.txns order → length order ≡ 128 → length w.delivered ≡ 2048 → Knows T w order result }
-    ensures ranged { Ranged result }
+    ensures { (T : Tables) (w : Seen) (order : List ℕ) → Ordered w.places T.txns order → length order ≡ 128 → length w.delivered ≡ 2048 → Knows T w order result }
 {
     Known {
         closable: [Closable::Anyone; 16],
         stuck: [false; 16],
-        next: [0; 16],
+        next: Positions { at: [0; 16] },
         low: [0; 16],
-        top: [128; 16],
+        top: Positions { at: [128; 16] },
         passed: [0; 128],
         open: 0,
     }
@@ -38,18 +37,18 @@ pub fn first_known() -> Known
 
 // After a CLOSE at s: what it blocked may come, and the new head may be closed.
 pub fn after_close(order: &Order, w: &Parts, known: &mut Known, s: usize)
-    requires { (s < 16) × Ranged known.old }
-    ensures closed { Closed (codes order.now) known.old known.new s w.now.delivered w.now.closed }
-    ensures ranged { Ranged known.new }
+    requires { s < 16 }
+    ensures { Closed (codes order.now) known.old known.new s w.now.delivered w.now.closed }
 {
     // Where the array is named, its length is known.
     let _ = &w.delivered;
-    let q = known.top[s];
+    let q = known.top.at[s];
     let p = order::head_from(order, w, s, known.low[s], q);
     known.low[s] = p;
     known.stuck[s] = false;
     if known.closable[s] != Closable::Anyone {
         known.closable[s] = match order::head_at(order, p, q) {
+            // A transaction is below 128.
             Some(t) => Closable::Only(t as u8),
             None => Closable::Nobody,
         };
@@ -79,19 +78,19 @@ fn joined(those: Closable, t: u8) -> Closable
 
 // After t, at position p, was delivered at s: its vote is new, and those who hold it already may judge t anew.
 pub fn after_deliver(plan: &Plan, w: &Parts, known: &mut Known, t: usize, s: usize, p: usize)
-    requires laid { Laid plan.now × Ranged known.old }
+    requires laid { Laid plan.now }
     requires t_bound { (t < 128) × ((s < 16) × (p < 128)) }
-    ensures knows { (x : Seen) (order : List ℕ) (v : ℕ) → Planned plan.now → todo_in plan.now.tables x ≡ Deliver s → get_or order p nobody ≡ t → t < plan.now.tables.txns → x.carried ≡ w.now.carried → Knows plan.now.tables x order known.old → Knows plan.now.tables (delivered_parts x t s v) order known.new }
-    ensures ranged { Ranged known.new }
+    ensures { (x : Seen) (order : List ℕ) (v : ℕ) → Planned plan.now → todo_in plan.now.tables x ≡ Deliver s → get_or order p nobody ≡ t → t < plan.now.tables.txns → x.carried ≡ w.now.carried → Knows plan.now.tables x order known.old → Knows plan.now.tables (delivered_parts x t s v) order known.new }
 {
     known.stuck[s] = false;
     known.passed[t] = 0;
     known.low[s] = known.low[s].min(p);
-    known.top[s] = known.top[s].max(p + 1);
+    known.top.at[s] = known.top.at[s].max(p + 1);
     known.open = known.open.min(p);
     if is_shared(w, plan.sites, t, s) {
         known.closable = [Closable::Anyone; 16];
     } else {
+        // A transaction is below 128.
         known.closable[s] = joined(known.closable[s], t as u8);
     }
 }
@@ -100,10 +99,9 @@ pub fn after_deliver(plan: &Plan, w: &Parts, known: &mut Known, t: usize, s: usi
 
 // Whether t can be closed at s now that s was handed a vote; the head of the queue is found on the way.
 fn closes_now(plan: &Plan, order: &Order, w: &Parts, known: &mut Known, t: usize, s: usize) -> bool
-    requires laid { Laid plan.now × Ranged known.old }
+    requires laid { Laid plan.now }
     requires t_bound { (t < plan.now.tables.txns) × (s < 16) }
     ensures knows { Planned plan.now → s < plan.now.sites → Knows plan.now.tables (seen w.now) (codes order.now) known.old → Knows plan.now.tables (seen w.now) (codes order.now) known.new × (result ≡ eqb (closing plan.now.tables (seen w.now) t s) 0) }
-    ensures ranged { Ranged known.new }
     ensures kept { known.new ≡ record known.old { low = known.new.low } }
 {
     if !queues::is_queued(w, t, s) {
@@ -111,7 +109,7 @@ fn closes_now(plan: &Plan, order: &Order, w: &Parts, known: &mut Known, t: usize
     }
     // Where the array is named, its length is known.
     let _ = &w.delivered;
-    let q = known.top[s];
+    let q = known.top.at[s];
     let p = order::head_from(order, w, s, known.low[s], q);
     known.low[s] = p;
     search::can_close(plan, w, t, s, order::head_at(order, p, q))
@@ -126,11 +124,11 @@ pub fn carry_on(
     t: usize,
     n: u32,
 ) -> u32
-    requires laid { Laid plan.now × Ranged known.old }
+    requires laid { Laid plan.now }
     requires t_bound { t < plan.now.tables.txns }
     ensures carried { («from» to : ℕ) → Planned plan.now → Knows plan.now.tables (seen w.old) (codes order.now) known.old → todo_in plan.now.tables (seen w.old) ≡ Carry t «from» to → Carried plan.now.tables (seen w.old) result w.new.carried × (Knows plan.now.tables (carried_parts (seen w.old) w.new.carried) (codes order.now) known.new × (0 < n → 0 < result)) }
     ensures kept { w.new ≡ with_votes w.old w.new.carried }
-    ensures ranged { Ranged known.new × (result ≤ n) }
+    ensures bound { result ≤ n }
 {
     let mut k: u32 = 0;
     let mut q = known.passed[t];
@@ -140,6 +138,7 @@ pub fn carry_on(
         if search::can_carry(plan, w, t, f, s) {
             rules::hand(&mut w.carried, t * 16 + s, f);
             k += 1;
+            // A transaction is below 128.
             known.closable[s] = Closable::Only(t as u8);
             if closes_now(plan, order, w, known, t, s) {
                 known.passed[t] = q + 1;

@@ -68,6 +68,7 @@ fn put_item(st: &State, w: &mut Writer, m: u64, s: usize, k: u8)
         let at = s * 64 + key;
         let version = st.parts.versions[at].0;
         let value = st.parts.values[at];
+        // A site is below 16.
         w.line(b"ITEM", &[s as u32, u32::from(k), version, value]);
     }
 }

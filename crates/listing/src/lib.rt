@@ -43,8 +43,8 @@ fn run(st: &mut State, schedule: &[u8], w: &mut Writer)
 
 // ---- the listing
 
-// No listing is longer.
-const MOST: usize = 774912;
+// No listing is longer; what is to hold one has so much room.
+pub const MOST: usize = 774912;
 
 // The run of a schedule from the fresh state of the tables, as much of it as there is room for; the answer is its length.
 #[inline(never)]
@@ -101,6 +101,7 @@ fn offset(c: usize, at: Where) -> u32
     requires { offset_of c at < 2 ^ 32 }
     ensures { result ≡ offset_of c at }
 {
+    // A file has no byte past 2^32.
     match at {
         Where::InSetup(i) => i as u32,
         Where::InSchedule(i) => (c + i) as u32,

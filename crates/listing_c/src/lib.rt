@@ -11,6 +11,7 @@ pub extern "C" fn pstore_list(file: &[u8], out: &mut [u8]) -> i64
     ensures out_after { out.new ≡ left_of (in_room (length out.old) (listing_of file.now)) out.old }
 {
     match listing::list(file, out) {
+        // A listing is far shorter.
         Ok(n) => n as i64,
         Err(refusal) => -i64::from(refusal.number()),
     }

@@ -13,9 +13,10 @@ use Rattle.steps.specs.declared.Place.{Place}
 use Rattle.steps.specs.declared.Step.{Step}
 use Rattle.steps.specs.declared.Step.TheVariants.{Read, Submit, Deliver, Carry, Close, Settle}
 use Rattle.tables.specs.Empty.{no_tables}
-use Rattle.tables.specs.Lists.{present, twice, read_count, write_count}
+use Rattle.tables.specs.Lists.{present, twice, read_count, write_count, read_row, write_row}
 use Rattle.tables.specs.Sites.{sites_in, site_count}
 use Rattle.tables.specs.Judge.{keys_refusal, size_refusal, group_refusal, count_refusal, key_refusal, txn_refusal, judge}
+use Rattle.tables.specs.declared.Group.{Group}
 use Rattle.tables.specs.declared.Tables.{Tables}
 use Rattle.tables.proofs.Laws.{count_low, groups_low}
 use Rattle.rules.specs.Fit.{counts_fit, row_fits, txn_fits, txns_fit, places_fit}
@@ -60,8 +61,8 @@ submit_usable st t z h e =
     let (a, e1) = passed 20 (omega arith) (leb T.txns t) _ e in
     let l : t < T.txns = leb-false T.txns t a in
     let p : place_of st t ≡ 0 = omega (arith, ltb-false 0 (place_of st t) (passed 24 (omega arith) (ltb 0 (place_of st t)) _ e1).0) in
-    let (c, r) = and-true (counts_fit T.keys T.groups T.sizes T.txns) (txns_fit T.keys T.reads T.nreads T.writes T.nwrites T.txns && places_fit st.parts.places T.txns) h in
-    let (x, f) = and-true (txns_fit T.keys T.reads T.nreads T.writes T.nwrites T.txns) (places_fit st.parts.places T.txns) r in
+    let (c, r) = and-true (counts_fit T.keys T.groups T.group T.txns) (txns_fit T.keys T.txn T.txns && places_fit st.parts.places T.txns) h in
+    let (x, f) = and-true (txns_fit T.keys T.txn T.txns) (places_fit st.parts.places T.txns) r in
     and_put _ _ c (and_put _ _ x (place_fits st.parts.places T.txns t (submitted_in st.parts.places T.txns + 1) (omega (arith, u.txns)) (omega (arith, u.txns, few_placed st.parts.places T.txns t l p)) f))
 
 done_usable : (st : State) (x : Step) → length st.parts.places ≡ 128 → usable st ≡ true → refusal st x ≡ 0 → usable (done st x).next ≡ true
@@ -85,21 +86,21 @@ step_usable st x z h = by (eqb (refusal st x) 0) refl
 -- ---- fresh
 
 -- of a row that no judgement refuses
-row_fits_lem : (keys : ℕ) (row : List ℕ) (t n : ℕ) → n ≤ 8 → present row t n keys ≡ true → twice row t n ≡ false → row_fits keys row t n ≡ true
+row_fits_lem : (keys : ℕ) (row : List ℕ) (n : ℕ) → n ≤ 8 → present row n keys ≡ true → twice row n ≡ false → row_fits keys row n ≡ true
 unfolding row_fits
-row_fits_lem keys row t n l p q = rw (le-leb n 8 l, p, q)
+row_fits_lem keys row n l p q = rw (le-leb n 8 l, p, q)
 
-txn_fits_lem : (T : Tables) (t : ℕ) → txn_refusal T t ≡ 0 → (t < 128) × (txn_fits T.keys T.reads T.nreads T.writes T.nwrites t ≡ true)
+txn_fits_lem : (T : Tables) (t : ℕ) → txn_refusal T t ≡ 0 → (t < 128) × (txn_fits T.keys T.txn t ≡ true)
 unfolding txn_refusal key_refusal txn_fits
 txn_fits_lem T t h =
     let (c, k) = else-none (count_refusal t (read_count T t) (write_count T t)) _ h in
     let (r, w) = count_low t (read_count T t) (write_count T t) c in
-    let pr = present T.reads t (read_count T t) T.keys in
-    let pw = present T.writes t (write_count T t) T.keys in
-    let (p, d) = kept (pr && pw) (twice T.reads t (read_count T t) || twice T.writes t (write_count T t)) k in
+    let pr = present (read_row T t) (read_count T t) T.keys in
+    let pw = present (write_row T t) (write_count T t) T.keys in
+    let (p, d) = kept (pr && pw) (twice (read_row T t) (read_count T t) || twice (write_row T t) (write_count T t)) k in
     let (a, b) = and-true pr pw p in
-    let (x, y) = or-false (twice T.reads t (read_count T t)) (twice T.writes t (write_count T t)) d in
-    (low c, and_put _ _ (row_fits_lem T.keys T.reads t (read_count T t) r a x) (row_fits_lem T.keys T.writes t (write_count T t) w b y))
+    let (x, y) = or-false (twice (read_row T t) (read_count T t)) (twice (write_row T t) (write_count T t)) d in
+    (low c, and_put _ _ (row_fits_lem T.keys (read_row T t) (read_count T t) r a x) (row_fits_lem T.keys (write_row T t) (write_count T t) w b y))
   where
     kept : (p q : Bool) → ◌≡◌ {A = ℕ} (cond p (cond q 6 0) 5) 0 → (p ≡ true) × (q ≡ false)
     kept true true e = absurd (omega arith)
@@ -116,9 +117,9 @@ sites_low keys g size n mask h =
     let b = (or-false (leb 8 g) _ (passed 5 (omega arith) _ _ h).0).1 in
     ltb-false 16 n (or-false (ltb 16 n) _ (or-false (eqb size 0) _ b).1).0
 
-counts_fit_lem : (keys groups txns : ℕ) (sizes : List ℕ) → keys ≤ 64 → groups ≤ 8 → sites_in sizes groups ≤ 16 → txns ≤ 128 → counts_fit keys groups sizes txns ≡ true
+counts_fit_lem : (keys groups txns : ℕ) (group : List Group) → keys ≤ 64 → groups ≤ 8 → sites_in group groups ≤ 16 → txns ≤ 128 → counts_fit keys groups group txns ≡ true
 unfolding counts_fit
-counts_fit_lem keys groups txns sizes a b c d = rw (le-leb keys 64 a, le-leb groups 8 b, le-leb (sites_in sizes groups) 16 c, le-leb txns 128 d)
+counts_fit_lem keys groups txns group a b c d = rw (le-leb keys 64 a, le-leb groups 8 b, le-leb (sites_in group groups) 16 c, le-leb txns 128 d)
 
 -- tables that the reader takes
 pub fresh_usable : (T : Tables) → judge T ≡ 0 → usable (start_of T) ≡ true
@@ -129,8 +130,8 @@ fresh_usable T h =
     let (g, h3) = else-none (first_of T.groups (group_refusal T)) _ h2 in
     let (x, e) = else-none (first_of T.txns (txn_refusal T)) _ h3 in
     let few = txns_few T.txns (λ t l. (txn_fits_lem T t (of_none T.txns (txn_refusal T) x t l)).0) in
-    and_put _ _ (counts_fit_lem T.keys T.groups T.txns T.sizes (keys_few k) (groups_low T T.groups g) (sites_few z g) few)
-    (and_put _ _ (all_put T.txns (txn_fits T.keys T.reads T.nreads T.writes T.nwrites) (λ t l. (txn_fits_lem T t (of_none T.txns (txn_refusal T) x t l)).1))
+    and_put _ _ (counts_fit_lem T.keys T.groups T.txns T.group (keys_few k) (groups_low T T.groups g) (sites_few z g) few)
+    (and_put _ _ (all_put T.txns (txn_fits T.keys T.txn) (λ t l. (txn_fits_lem T t (of_none T.txns (txn_refusal T) x t l)).1))
     (all_put T.txns (λ t. leb (place_in (replicate 128 (place 0)) t) 128) (λ t l. nowhere_yet t (omega arith))))
   where
     keys_few : keys_refusal T.keys ≡ 0 → T.keys ≤ 64
@@ -144,7 +145,7 @@ fresh_usable T h =
         let p : 0 < T.groups = omega (arith, eqb-false T.groups 0 (passed 3 (omega arith) _ 0 z).0) in
         let q : suc (T.groups - 1) ≡ T.groups = omega arith in
         let r = of_none T.groups (group_refusal T) g (T.groups - 1) (omega arith) in
-        rw q at (sites_low _ _ _ (sites_in T.sizes (suc (T.groups - 1))) _ r)
+        rw q at (sites_low _ _ _ (sites_in T.group (suc (T.groups - 1))) _ r)
 
     nowhere_yet : (t : ℕ) → t < 128 → leb (place_in (replicate 128 (place 0)) t) 128 ≡ true
     nowhere_yet t l =

@@ -1,8 +1,8 @@
 -- What holds of counts that fit, and of tables that are judged good.
 -- Assumes nothing.
-use Rattle.std.proofs.Common.{ℕ, ◌≤◌, ◌≡◌, refl, Bool, true, false, cond, List, Result, Ok, Err, leb, eqb, leb-true, eqb-true, ne_eqb, arith}
+use Rattle.std.proofs.Common.{ℕ, ◌≤◌, ◌≡◌, refl, Bool, true, false, cond, List, Result, Ok, Err, leb, eqb, leb-true, eqb-true, arith}
 use Rattle.std.specs.Result.{is_ok}
-use Rattle.numbers.specs.Numbers.{file_number, file_answer}
+use Rattle.numbers.specs.Numbers.{file_answer}
 use Rattle.numbers.specs.declared.FileRefusal.{FileRefusal}
 use Rattle.numbers.proofs.Laws.{file_refuses}
 use Rattle.bounded.specs.Bounded.{first_of}
@@ -11,14 +11,15 @@ use Rattle.bounded.proofs.Laws.{else-none}
 use Rattle.tables.specs.Sites.{sites_in}
 use Rattle.tables.specs.Empty.{no_tables}
 use Rattle.tables.specs.Judge.{judge, keys_refusal, group_refusal}
+use Rattle.tables.specs.declared.Group.{Group}
 use Rattle.tables.specs.declared.Tables.{Tables}
 use Rattle.tables.proofs.Laws.{groups_low}
 use Rattle.rules.specs.Fit.{counts_fit}
 
-pub counts_txns : (keys groups : ℕ) (sizes : List ℕ) (txns : ℕ) → counts_fit keys groups sizes txns ≡ true → txns ≤ 128
+pub counts_txns : (keys groups : ℕ) (group : List Group) (txns : ℕ) → counts_fit keys groups group txns ≡ true → txns ≤ 128
 unfolding counts_fit
-counts_txns keys groups sizes txns h =
-    leb-true _ _ (and-true (leb (sites_in sizes groups) 16) (leb txns 128) (and-true (leb groups 8) _ (and-true (leb keys 64) _ h).1).1).1
+counts_txns keys groups group txns h =
+    leb-true _ _ (and-true (leb (sites_in group groups) 16) (leb txns 128) (and-true (leb groups 8) _ (and-true (leb keys 64) _ h).1).1).1
 
 -- ---- tables that are judged good
 

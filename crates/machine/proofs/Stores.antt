@@ -1,7 +1,7 @@
 -- Where CLOSE is accepted, a commit has room, and what it writes is what the machine's step stores.
 -- Assumes nothing.
 use Rattle.std.proofs.Common.{ℕ, ◌≡◌, ◌<◌, refl, ap, Bool, true, false, cond, eqb, arith}
-use Rattle.tables.specs.Lists.{write_count, write_key}
+use Rattle.tables.specs.Lists.{write_count, write_key, write_row}
 use Rattle.plan.specs.declared.Plan.{Plan}
 use Rattle.parts.specs.declared.Parts.{Parts}
 use Rattle.parts.specs.Changed as changed
@@ -19,7 +19,7 @@ use Rattle.machine.proofs.Laws.{usable_has, row_apart}
 module _ (p : Plan) (w : Parts) (r : Ready p w) (t s : ℕ) (z : close_refusal (state_of p w) t s ≡ 0) where
   -- t writes no key twice
   once : (i j : ℕ) → i < write_count p.tables t → j < write_count p.tables t → write_key p.tables t i ≡ write_key p.tables t j → i ≡ j
-  once i j = row_apart p.tables.writes t (write_count p.tables t) i j ((usable_has (state_of p w) r.1).writes t (close_has p.tables (seen w) t s z).txn).once
+  once i j = row_apart (write_row p.tables t) (write_count p.tables t) i j ((usable_has (state_of p w) r.1).writes t (close_has p.tables (seen w) t s z).txn).once
 
   -- t is a transaction, s a site, and a commit has room
   pub close_may : (t < p.tables.txns) × ((s < 16) × (verdict (state_of p w) t s ≡ 1 → Room p.tables w t s))

@@ -6,6 +6,6 @@ use Rattle.machine.specs.declared.State.{State}
 -- no count over its limit, no key number out of range, no key twice in a list, no place over 128
 unfoldable pub usable : State → Bool
 usable st =
-    counts_fit st.tables.keys st.tables.groups st.tables.sizes st.tables.txns
-    && (txns_fit st.tables.keys st.tables.reads st.tables.nreads st.tables.writes st.tables.nwrites st.tables.txns
+    counts_fit st.tables.keys st.tables.groups st.tables.group st.tables.txns
+    && (txns_fit st.tables.keys st.tables.txn st.tables.txns
     && places_fit st.parts.places st.tables.txns)

@@ -8,7 +8,7 @@ ghost use Rattle.machine.specs.Rules.{next_at};
 ghost use Rattle.machine.specs.Usable.{usable};
 ghost use Rattle.machine.specs.Settle.{todo, settle_done};
 ghost use Rattle.search.specs.Search.{seen, Close, Deliver, Nothing};
-ghost use Rattle.search.specs.Known.{Knows, Ranged};
+ghost use Rattle.search.specs.Known.{Knows};
 ghost use Rattle.machine.specs.Steps.{step_of};
 ghost use Rattle.machine.specs.Lent.{state_of, Ready, Takes, Turns, idle_after};
 ghost use Rattle.machine.specs.Fresh.{start_of, fresh_of};
@@ -34,7 +34,7 @@ pub struct Stepped {
     pub next: State,
 }
 
-// Whether the reader would take the tables, and the state made of them.
+// Whether the reader would take the tables, and the state made of them; a refusal gives a state too.
 #[derive(Clone, Copy)]
 pub struct Fresh {
     pub outcome: Result<(), FileRefusal>,
@@ -45,10 +45,8 @@ pub struct Fresh {
 
 // CLOSE of t at s, where that comes next, and what is known after it.
 fn close_next(plan: &Plan, order: &Order, w: &mut Parts, known: &mut Known, t: u8, s: u8)
-    requires ready { Ready plan.now w.old × (todo (state_of plan.now w.old) ≡ Close t s) }
-    requires ranged { Ranged known.old }
-    ensures turns { Turns (state_of plan.now w.old) 1 (state_of plan.now w.new) (codes order.now) known.old known.new }
-    ensures ranged_2 { Ranged known.new }
+    requires { Ready plan.now w.old × (todo (state_of plan.now w.old) ≡ Close t s) }
+    ensures { Turns (state_of plan.now w.old) 1 (state_of plan.now w.new) (codes order.now) known.old known.new }
 {
     let _ = effects::close(plan, w, t, s);
     known::after_close(order, w, known, usize::from(s));
@@ -57,9 +55,8 @@ fn close_next(plan: &Plan, order: &Order, w: &mut Parts, known: &mut Known, t: u
 // DELIVER at s of who stands at position p, where that comes next, and what is known after it.
 fn deliver_next(plan: &Plan, order: &Order, w: &mut Parts, known: &mut Known, s: u8, p: usize)
     requires ready { Ready plan.now w.old × ((todo (state_of plan.now w.old) ≡ Deliver s) × (get_or (codes order.now) p nobody ≡ next_at (state_of plan.now w.old) s)) }
-    requires ranged { Ranged known.old × (p < 128) }
-    ensures turns { Turns (state_of plan.now w.old) 1 (state_of plan.now w.new) (codes order.now) known.old known.new }
-    ensures ranged_2 { Ranged known.new }
+    requires p_bound { p < 128 }
+    ensures { Turns (state_of plan.now w.old) 1 (state_of plan.now w.new) (codes order.now) known.old known.new }
 {
     if let Some(t) = order::at(order, p) {
         let site = usize::from(s);
@@ -71,9 +68,9 @@ fn deliver_next(plan: &Plan, order: &Order, w: &mut Parts, known: &mut Known, s:
 // What comes next, taken: one CLOSE, one DELIVER, or up to n CARRYs; the answer is how many steps.
 fn turn(plan: &Plan, order: &Order, w: &mut Parts, known: &mut Known, n: u32) -> u32
     requires ready { Ready plan.now w.old × Knows plan.now.tables (seen w.old) (codes order.now) known.old }
-    requires ranged { Ranged known.old × (0 < n) }
+    requires n_bound { 0 < n }
     ensures turns { Turns (state_of plan.now w.old) result (state_of plan.now w.new) (codes order.now) known.old known.new }
-    ensures ranged_2 { Ranged known.new × (result ≤ n) }
+    ensures bound { result ≤ n }
 {
     match search::next_step(plan, order, w, known) {
         Some(Next::Close { t, s }) => {
@@ -102,6 +99,7 @@ fn take_settle(plan: &Plan, w: &mut Parts, idle: bool) -> u32
     let order = order::order_of(plan, w);
     let mut known = known::first_known();
     let mut n: u32 = 0;
+    // A turn takes up to as many steps as are left, so their number is not the loop's own.
     while n < 34816 {
         let k = turn(plan, &order, w, &mut known, 34816 - n);
         if k == 0 {

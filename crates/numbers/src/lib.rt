@@ -50,6 +50,7 @@ pub enum StepRefusal {
     LastVersion = 32,
 }
 
+// Each says its own number in a word; a trait over them would be no plainer.
 impl FileRefusal {
     pub fn number(self) -> u8
         ensures { result ≡ file_number self }

@@ -3,6 +3,8 @@
 
 use steps::{Place, Version};
 
+// Stores are arrays of versions and of values, as document 01 has them. Steps are answered on any numbers and flags, so a
+// flag stands beside its values and none of these is a narrower type.
 #[derive(Clone, Copy)]
 pub struct Parts {
     // Of site s and key k, at s * 64 + k: the replica's version and value.

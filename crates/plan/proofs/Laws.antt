@@ -17,39 +17,39 @@ in-put : (a m : ℕ) → ((k : ℕ) → k < 64 → member a k ≡ true → membe
 unfolding including
 in-put a m h = all_put 64 _ (λ k l. elim (bool (member a k)) [ inl e ↦ rw e (h k l e) | inr e ↦ rw e ])
 
--- ---- a set that has the first n keys of row t
+-- ---- a set that has the first n keys of a row
 
-module _ (a : ℕ) (row : List ℕ) (t n : ℕ) (low : (k : ℕ) → member a k ≡ true → k < 64) (same : (k : ℕ) → member a k ≡ in_row row t n k) where
+module _ (a : ℕ) (row : List ℕ) (n : ℕ) (low : (k : ℕ) → member a k ≡ true → k < 64) (same : (k : ℕ) → member a k ≡ in_row row n k) where
   -- the i-th of the row is in it, and what is in it stands somewhere in the row
-  has : (i : ℕ) → i < n → member a (row_at row t i) ≡ true
+  has : (i : ℕ) → i < n → member a (row_at row i) ≡ true
   unfolding in_row
-  has i l = same (row_at row t i) ∙ any_put n _ i l (eq-eqb (row_at row t i) (row_at row t i) refl)
+  has i l = same (row_at row i) ∙ any_put n _ i l (eq-eqb (row_at row i) (row_at row i) refl)
 
-  from_row : (k : ℕ) → member a k ≡ true → (i : ℕ) × (i < n) × (row_at row t i ≡ k)
+  from_row : (k : ℕ) → member a k ≡ true → (i : ℕ) × (i < n) × (row_at row i ≡ k)
   unfolding in_row
-  from_row k h = let (i, l, q) = any_get n _ (sym (same k) ∙ h) in (i, l, eqb-true (row_at row t i) k q)
+  from_row k h = let (i, l, q) = any_get n _ (sym (same k) ∙ h) in (i, l, eqb-true (row_at row i) k q)
 
-  under : (i : ℕ) → i < n → row_at row t i < 64
-  under i l = low (row_at row t i) (has i l)
+  under : (i : ℕ) → i < n → row_at row i < 64
+  under i l = low (row_at row i) (has i l)
 
   -- it meets m where one of the row is in m
-  pub row_some : (m : ℕ) → meeting a m ≡ some_in row t n m
+  pub row_some : (m : ℕ) → meeting a m ≡ some_in row n m
   unfolding meeting some_in
-  row_some m = iff_eq (meeting a m) (some_in row t n m)
+  row_some m = iff_eq (meeting a m) (some_in row n m)
       (λ q. let (k, l, p) = any_get 64 _ q in let (x, y) = and-true (member a k) (member m k) p in let (i, j, r) = from_row k x in any_put n _ i j (rw r y))
-      (λ q. let (i, l, p) = any_get n _ q in any_put 64 _ (row_at row t i) (under i l) (and_put _ _ (has i l) p))
+      (λ q. let (i, l, p) = any_get n _ q in any_put 64 _ (row_at row i) (under i l) (and_put _ _ (has i l) p))
 
   -- it is in m where all of the row are
-  pub row_all : (m : ℕ) → including a m ≡ all_in row t n m
+  pub row_all : (m : ℕ) → including a m ≡ all_in row n m
   unfolding all_in
-  row_all m = iff_eq (including a m) (all_in row t n m)
-      (λ q. all_put n _ (λ i l. in-get a m q (row_at row t i) (under i l) (has i l)))
+  row_all m = iff_eq (including a m) (all_in row n m)
+      (λ q. all_put n _ (λ i l. in-get a m q (row_at row i) (under i l) (has i l)))
       (λ q. in-put a m (λ k l x. let (i, j, r) = from_row k x in rw r at (all_get n _ q i j)))
 
   -- it meets the set of another row where the rows meet
-  pub rows_meet : (b : ℕ) (other : List ℕ) (u m : ℕ) → ((k : ℕ) → member b k ≡ in_row other u m k) → meeting a b ≡ meets row t n other u m
+  pub rows_meet : (b : ℕ) (other : List ℕ) (m : ℕ) → ((k : ℕ) → member b k ≡ in_row other m k) → meeting a b ≡ meets row n other m
   unfolding some_in meets
-  rows_meet b other u m e = row_some b ∙ any_same n _ _ (λ i l. e (row_at row t i))
+  rows_meet b other m e = row_some b ∙ any_same n _ _ (λ i l. e (row_at row i))
 
 -- ---- the union of two sets
 

@@ -6,7 +6,7 @@ use Rattle.bounded.proofs.Laws.{all_same}
 use Rattle.bounded.proofs.Truth.{bool, same, or_left, or_right}
 use Rattle.keys.specs.Keys.{member, meeting, including}
 use Rattle.keys.proofs.Laws.{low}
-use Rattle.tables.specs.Lists.{read_count, write_count, meets}
+use Rattle.tables.specs.Lists.{read_row, read_count, write_row, write_count, meets}
 use Rattle.tables.specs.Concern.{votes, touches, concerns, inside, holds_all, local}
 use Rattle.plan.specs.Planned.{Planned}
 use Rattle.plan.specs.declared.Plan.{Plan}
@@ -23,13 +23,13 @@ module _ (p : Plan) (h : Planned p) (t : ℕ) (is : t < p.tables.txns) where
   module _ (width : reads < 2 ^ 64) where
     -- s is in V(t)
     pub plan_votes : (s : ℕ) → s < 16 → meeting reads (get_or p.site_sets s 0) ≡ votes p.tables t s
-    plan_votes s l = rw (h.site_sets s l) (row_some reads p.tables.reads t (read_count p.tables t) (λ k. low 64 reads k width) (λ k. h.read_sets t k is) _)
+    plan_votes s l = rw (h.site_sets s l) (row_some reads (read_row p.tables t) (read_count p.tables t) (λ k. low 64 reads k width) (λ k. h.read_sets t k is) _)
 
     -- t reads what u writes
     pub plan_reads : (u : ℕ) → u < p.tables.txns
-        → meeting reads (get_or p.write_sets u 0) ≡ meets p.tables.reads t (read_count p.tables t) p.tables.writes u (write_count p.tables u)
+        → meeting reads (get_or p.write_sets u 0) ≡ meets (read_row p.tables t) (read_count p.tables t) (write_row p.tables u) (write_count p.tables u)
     plan_reads u l =
-        rows_meet reads p.tables.reads t (read_count p.tables t) (λ k. low 64 reads k width) (λ k. h.read_sets t k is) (get_or p.write_sets u 0) p.tables.writes u (write_count p.tables u) (λ k. h.write_sets u k l)
+        rows_meet reads (read_row p.tables t) (read_count p.tables t) (λ k. low 64 reads k width) (λ k. h.read_sets t k is) (get_or p.write_sets u 0) (write_row p.tables u) (write_count p.tables u) (λ k. h.write_sets u k l)
 
   -- of u, the keys of t
   module _ (u : ℕ) (width : u < 2 ^ 64) (union : (k : ℕ) → member u k ≡ (member reads k || member writes k)) where
@@ -45,8 +45,8 @@ module _ (p : Plan) (h : Planned p) (t : ℕ) (is : t < p.tables.txns) where
     plan_concerns s l =
         union_some reads writes u union _
         ∙ rw (h.site_sets s l) (ap₂ ◌||◌
-        (row_some reads p.tables.reads t (read_count p.tables t) low_read (λ k. h.read_sets t k is) _)
-        (row_some writes p.tables.writes t (write_count p.tables t) low_write (λ k. h.write_sets t k is) _))
+        (row_some reads (read_row p.tables t) (read_count p.tables t) low_read (λ k. h.read_sets t k is) _)
+        (row_some writes (write_row p.tables t) (write_count p.tables t) low_write (λ k. h.write_sets t k is) _))
 
     -- s holds all keys of t
     pub plan_holds : (s : ℕ) → s < 16 → including u (get_or p.site_sets s 0) ≡ holds_all p.tables t s
@@ -54,8 +54,8 @@ module _ (p : Plan) (h : Planned p) (t : ℕ) (is : t < p.tables.txns) where
     plan_holds s l =
         union_all reads writes u union _
         ∙ rw (h.site_sets s l) (ap₂ ◌&&◌
-        (row_all reads p.tables.reads t (read_count p.tables t) low_read (λ k. h.read_sets t k is) _)
-        (row_all writes p.tables.writes t (write_count p.tables t) low_write (λ k. h.write_sets t k is) _))
+        (row_all reads (read_row p.tables t) (read_count p.tables t) low_read (λ k. h.read_sets t k is) _)
+        (row_all writes (write_row p.tables t) (write_count p.tables t) low_write (λ k. h.write_sets t k is) _))
 
     -- each site has all keys of t or none
     pub plan_local : all_below p.sites (λ s. not (meeting u (get_or p.site_sets s 0)) || including u (get_or p.site_sets s 0)) ≡ local p.tables t

@@ -1,16 +1,18 @@
 // The plan of the tables: beside them the sets of keys and sites by which the protocol's questions are answered.
 #![tactic(auto)]
 
-ghost use Rattle.std.specs.Prelude.{◌≡◌, ◌&&◌, ℕ, ◌+◌, ◌*◌, ◌≤◌, ◌<◌, ◌||◌, ltb, get_or};
+ghost use Rattle.std.specs.Prelude.{◌≡◌, ◌&&◌, ℕ, ◌+◌, ◌*◌, ◌≤◌, ◌<◌, ◌||◌, true, ltb, get_or};
 ghost use Rattle.keys.specs.Keys.{member};
-ghost use Rattle.tables.specs.Lists.{row_at, in_row, conflict};
+ghost use Rattle.tables.specs.Lists.{row_at, in_row, read_count, read_key, write_count, write_key, write_value, conflict};
 ghost use Rattle.tables.specs.Concern.{votes, concerns, local};
 ghost use Rattle.tables.specs.Fits.{Fits};
 ghost use Rattle.plan.specs.Planned.{Laid, Planned};
 
 use std::array;
-use tables::Tables;
+use tables::{Keys, Tables};
 
+// That the sets are those of the tables is a clause and no part of the type: some functions answer on any plan. It is lent
+// beside the parts of a state, since those may change.
 #[derive(Clone, Copy)]
 pub struct Plan {
     pub tables: Tables,
@@ -23,39 +25,26 @@ pub struct Plan {
     pub write_sets: [u64; 128],
 }
 
-// The first n keys of row t as a set.
-fn row_set(row: &[u8; 1024], t: usize, n: usize) -> u64
-    requires t_bound { (t < 128) × (n ≤ 8) }
-    requires by_index { (i : ℕ) → i < n → row_at row.now t i < 64 }
-    ensures { (k : ℕ) → member result k ≡ in_row row.now t n k }
+// A list of keys as a set.
+fn row_set(row: &Keys) -> u64
+    requires bound { row.now.count ≤ 8 }
+    requires by_index { (i : ℕ) → i < row.now.count → row_at row.now.keys i < 64 }
+    ensures { (k : ℕ) → member result k ≡ in_row row.now.keys row.now.count k }
 {
     let mut m = 0;
-    for i in 0..n {
-        m = keys::with(m, usize::from(row[t * 8 + i]));
+    for i in 0..usize::from(row.count) {
+        m = keys::with(m, usize::from(row.keys[i]));
     }
     m
 }
 
-// The set of row t, where it is that of one of n transactions.
-fn set_of(row: &[u8; 1024], counts: &[u8; 128], n: usize, t: usize) -> u64
-    requires bound { (n ≤ 128) × (t < 128) }
-    requires by_index { (u : ℕ) → u < n → (get_or counts.now u 0 ≤ 8) × ((i : ℕ) → i < get_or counts.now u 0 → row_at row.now u i < 64) }
-    ensures { t < n → (k : ℕ) → member result k ≡ in_row row.now t (get_or counts.now t 0) k }
+// The set of a list of keys, where it is one that counts; else none.
+fn set_of(counts: bool, row: &Keys) -> u64
+    requires bound { counts ≡ true → row.now.count ≤ 8 }
+    requires by_index { counts ≡ true → (i : ℕ) → i < row.now.count → row_at row.now.keys i < 64 }
+    ensures { counts ≡ true → (k : ℕ) → member result k ≡ in_row row.now.keys row.now.count k }
 {
-    if t < n {
-        row_set(row, t, usize::from(counts[t]))
-    } else {
-        0
-    }
-}
-
-// The sets of the rows of n transactions.
-fn row_sets(row: &[u8; 1024], counts: &[u8; 128], n: usize) -> [u64; 128]
-    requires bound { n ≤ 128 }
-    requires by_index { (u : ℕ) → u < n → (get_or counts.now u 0 ≤ 8) × ((i : ℕ) → i < get_or counts.now u 0 → row_at row.now u i < 64) }
-    ensures { (t k : ℕ) → t < n → member (get_or result t 0) k ≡ in_row row.now t (get_or counts.now t 0) k }
-{
-    array::from_fn(|t| set_of(row, counts, n, t))
+    if counts { row_set(row) } else { 0 }
 }
 
 // Of n sites, the set of those that hold key k.
@@ -84,8 +73,8 @@ impl Plan {
     // The plan of tables whose counts and keys are within their limits.
     pub fn of(tables: Tables) -> Plan
         requires fits { Fits tables }
-        requires by_index { (t i : ℕ) → t < tables.txns → i < get_or tables.nreads t 0 → row_at tables.reads t i < 64 }
-        requires by_index_2 { (t i : ℕ) → t < tables.txns → i < get_or tables.nwrites t 0 → row_at tables.writes t i < 64 }
+        requires by_index { (t i : ℕ) → t < tables.txns → i < read_count tables t → read_key tables t i < 64 }
+        requires by_index_2 { (t i : ℕ) → t < tables.txns → i < write_count tables t → write_key tables t i < 64 }
         ensures { (result.tables ≡ tables) × Planned result }
     {
         let n = usize::from(tables.txns);
@@ -96,8 +85,8 @@ impl Plan {
             sites,
             site_sets,
             holders: holder_sets(&site_sets, sites),
-            read_sets: row_sets(&tables.reads, &tables.nreads, n),
-            write_sets: row_sets(&tables.writes, &tables.nwrites, n),
+            read_sets: array::from_fn(|t| set_of(t < n, &tables.txn[t].reads)),
+            write_sets: array::from_fn(|t| set_of(t < n, &tables.txn[t].writes)),
         }
     }
 
@@ -145,43 +134,45 @@ impl Plan {
             || keys::is_inside(all, self.site_sets[s]))
     }
 
-    // ---- rows of eight
+    // ---- the lists of a transaction
+
+    // No caller asks for reads or writes as the case may be, so one of each, told which, would be no plainer.
 
     // How many keys t reads, and writes.
     pub fn reads(&self, t: usize) -> usize
         requires { t < 128 }
-        ensures { result ≡ get_or self.now.tables.nreads t 0 }
+        ensures { result ≡ read_count self.now.tables t }
     {
-        usize::from(self.tables.nreads[t])
+        usize::from(self.tables.txn[t].reads.count)
     }
 
     pub fn writes(&self, t: usize) -> usize
         requires { t < 128 }
-        ensures { result ≡ get_or self.now.tables.nwrites t 0 }
+        ensures { result ≡ write_count self.now.tables t }
     {
-        usize::from(self.tables.nwrites[t])
+        usize::from(self.tables.txn[t].writes.count)
     }
 
     // The i-th key that t reads.
     pub fn read_key(&self, t: usize, i: usize) -> usize
         requires { (t < 128) × (i < 8) }
-        ensures { (result ≡ row_at self.now.tables.reads t i) × (result < 256) }
+        ensures { (result ≡ read_key self.now.tables t i) × (result < 256) }
     {
-        usize::from(self.tables.reads[t * 8 + i])
+        usize::from(self.tables.txn[t].reads.keys[i])
     }
 
     // The i-th key that t writes, and its value.
     pub fn write_key(&self, t: usize, i: usize) -> usize
         requires { (t < 128) × (i < 8) }
-        ensures { (result ≡ row_at self.now.tables.writes t i) × (result < 256) }
+        ensures { (result ≡ write_key self.now.tables t i) × (result < 256) }
     {
-        usize::from(self.tables.writes[t * 8 + i])
+        usize::from(self.tables.txn[t].writes.keys[i])
     }
 
     pub fn given(&self, t: usize, i: usize) -> u32
         requires { (t < 128) × (i < 8) }
-        ensures { result ≡ row_at self.now.tables.gives t i }
+        ensures { result ≡ write_value self.now.tables t i }
     {
-        self.tables.gives[t * 8 + i]
+        self.tables.txn[t].values[i]
     }
 }

@@ -85,6 +85,7 @@ pub fn submitted(plan: &Plan, w: &Parts) -> u32
     requires { Laid plan.now }
     ensures { (result ≡ submitted_in w.now.places plan.now.tables.txns) × (result ≤ 128) }
 {
+    // 128 at most.
     let n = usize::from(plan.tables.txns);
     w.places[..n].iter().filter(|p| p.0 != 0).count() as u32
 }

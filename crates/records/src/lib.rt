@@ -74,6 +74,7 @@ impl Field for u16 {
     ghost of = { λ n. n };
 
     fn read(s: &[u8], at: usize) -> u16 {
+        // Two bytes fit.
         number_at(s, at, 2) as u16
     }
 }
@@ -84,6 +85,7 @@ impl Field for u32 {
     ghost of = { λ n. n };
 
     fn read(s: &[u8], at: usize) -> u32 {
+        // Four bytes fit.
         number_at(s, at, 4) as u32
     }
 }

@@ -15,7 +15,7 @@ Held h own carried s = (f : ℕ) → member h f ≡ holds_vote own carried s f
 
 -- a site that holds key k has its vote held: the two sets meet
 pub covers : (p : Plan) (h own carried s k : ℕ) → Planned p → Held h own carried s → k < 64
-    → meeting (get_or p.holders k 0) h ≡ covers_key own carried p.tables.sizes p.tables.masks p.tables.groups (site_count p.tables) s k
+    → meeting (get_or p.holders k 0) h ≡ covers_key own carried p.tables.group p.tables.groups (site_count p.tables) s k
 unfolding meeting covers_key
 covers p h own carried s k is held low = iff_eq _ _
     (λ e.

@@ -4,7 +4,7 @@
 ghost use Rattle.std.specs.Prelude.{◌≡◌, ◌&&◌, cond, ℕ, ◌+◌, ◌*◌, ◌≤◌, ◌<◌, eqb, get_or, set};
 ghost use Rattle.bounded.specs.Bounded.{all_below};
 ghost use Rattle.keys.specs.Keys.{member, adding};
-ghost use Rattle.tables.specs.Lists.{read_count};
+ghost use Rattle.tables.specs.Lists.{read_row, read_count};
 ghost use Rattle.tables.specs.Sites.{site_count, site_keys};
 ghost use Rattle.plan.specs.Planned.{Laid, Planned};
 ghost use Rattle.parts.specs.Cells.{cell, version_in, recorded_in};
@@ -17,7 +17,7 @@ ghost use Rattle.steps.specs.Kinds.{version};
 use parts::Parts;
 use plan::Plan;
 use steps::{Place, Verdict, Vote};
-use tables::Tables;
+use tables::{Keys, Tables};
 
 // ---- votes
 
@@ -41,7 +41,7 @@ fn is_current(w: &Parts, t: usize, i: usize, s: usize, k: usize) -> bool
 fn certify(plan: &Plan, w: &Parts, t: usize, s: usize) -> Vote
     requires laid { Laid plan.now }
     requires t_bound { (t < plan.now.tables.txns) × (s < 16) }
-    ensures { Planned plan.now → vote_number (Some result) ≡ certify_in w.now.versions w.now.readversions w.now.recorded plan.now.tables.reads (read_count plan.now.tables t) t s (site_keys plan.now.tables s) }
+    ensures { Planned plan.now → vote_number (Some result) ≡ certify_in w.now.versions w.now.readversions w.now.recorded (read_row plan.now.tables t) (read_count plan.now.tables t) t s (site_keys plan.now.tables s) }
 {
     let m = plan.site_sets[s];
     let is_yes = (0..plan.reads(t)).all(|i| {
@@ -80,6 +80,7 @@ pub fn hand(carried: &mut [u16; 2048], i: usize, f: usize)
     requires { (i < 2048) × (f < 16) }
     ensures { carried.new ≡ set carried.old i (cond (member (get_or carried.old i 0) f) (get_or carried.old i 0) (adding (get_or carried.old i 0) f)) }
 {
+    // A site is below 16.
     carried[i] = keys::with(u64::from(carried[i]), f) as u16;
 }
 
@@ -99,7 +100,7 @@ fn voters(own: u8, carried: u16, s: usize) -> u64
 fn is_covered(plan: &Plan, held: u64, t: usize) -> bool
     requires laid { Laid plan.now }
     requires t_bound { t < plan.now.tables.txns }
-    ensures { (own carried s : ℕ) → Planned plan.now → ((f : ℕ) → member held f ≡ holds_vote own carried s f) → result ≡ covered_in own carried plan.now.tables.sizes plan.now.tables.masks plan.now.tables.groups plan.now.tables.reads (read_count plan.now.tables t) (site_count plan.now.tables) t s }
+    ensures { (own carried s : ℕ) → Planned plan.now → ((f : ℕ) → member held f ≡ holds_vote own carried s f) → result ≡ covered_in own carried plan.now.tables.group plan.now.tables.groups (read_row plan.now.tables t) (read_count plan.now.tables t) (site_count plan.now.tables) s }
 {
     (0..plan.reads(t)).all(|i| keys::meet(plan.holders[plan.read_key(t, i)], held))
 }
@@ -149,38 +150,31 @@ pub fn has_room(plan: &Plan, w: &Parts, t: usize, s: usize) -> bool
 
 #[tactic(auto, unfolding(crate::specs::Fit::counts_fit))]
 pub fn counts_fit(tables: &Tables) -> bool
-    ensures { result ≡ counts_fit tables.now.keys tables.now.groups tables.now.sizes tables.now.txns }
+    ensures { result ≡ counts_fit tables.now.keys tables.now.groups tables.now.group tables.now.txns }
 {
     tables.keys <= 64 && tables.groups <= 8 && tables.sites() <= 16 && tables.txns <= 128
 }
 
-// Whether the n keys of row t are eight at most, below the key count, and none twice.
+// Whether the keys of a list are eight at most, below the key count, and none twice.
 #[tactic(auto, unfolding(crate::specs::Fit::row_fits))]
-fn row_fits(keys: u8, row: &[u8; 1024], t: usize, n: usize) -> bool
-    requires { t < 128 }
-    ensures { result ≡ row_fits keys row.now t n }
+fn row_fits(keys: u8, row: &Keys) -> bool
+    ensures { result ≡ row_fits keys row.now.keys row.now.count }
 {
-    n <= 8 && tables::are_present(row, t, n, keys) && !tables::is_twice(row, t, n)
+    row.count <= 8 && row.are_present(keys) && !row.is_twice()
 }
 
 #[tactic(auto, unfolding(crate::specs::Fit::txn_fits))]
 fn txn_fits(tables: &Tables, t: usize) -> bool
     requires { t < 128 }
-    ensures { result ≡ txn_fits tables.now.keys tables.now.reads tables.now.nreads tables.now.writes tables.now.nwrites t }
+    ensures { result ≡ txn_fits tables.now.keys tables.now.txn t }
 {
-    row_fits(tables.keys, &tables.reads, t, usize::from(tables.nreads[t]))
-        && row_fits(
-            tables.keys,
-            &tables.writes,
-            t,
-            usize::from(tables.nwrites[t]),
-        )
+    row_fits(tables.keys, &tables.txn[t].reads) && row_fits(tables.keys, &tables.txn[t].writes)
 }
 
 // Whether the lists of all transactions can be run on.
 pub fn txns_fit(tables: &Tables) -> bool
     requires { tables.now.txns ≤ 128 }
-    ensures { result ≡ txns_fit tables.now.keys tables.now.reads tables.now.nreads tables.now.writes tables.now.nwrites tables.now.txns }
+    ensures { result ≡ txns_fit tables.now.keys tables.now.txn tables.now.txns }
 {
     (0..usize::from(tables.txns)).all(|t| txn_fits(tables, t))
 }

@@ -14,6 +14,7 @@ use Rattle.parts.specs.Cells.{nobody}
 use Rattle.steps.specs.declared.Place.{Place}
 use Rattle.refusals.specs.Refusals.{deliver_refusal_in}
 use Rattle.search.specs.Search.{Seen, nowhere, first_from_in, first_carried_in}
+use Rattle.search.specs.Within.{Within}
 use Rattle.search.specs.Known.{first_pair, next_at, top_at, Knows}
 use Rattle.search.specs.declared.Known.{Known}
 use Rattle.search.proofs.Pair.{pair_passed, pair_none, pair_from, from_pair}
@@ -48,14 +49,14 @@ module _ (T : Tables) (w : Seen) (order : List ℕ) (l : Known) (g : Knows T w o
   ]
 
   -- the three positions of s stored
-  pub knows_looked : (p q : ℕ) → s < length l.top
+  pub knows_looked : (p q : ℕ) (b : Within (set l.next.at s v)) (h : Within (set l.top.at s q)) → s < length l.top.at
       → ((i : ℕ) → i < v → waits_at T w.places w.delivered order s i ≡ false)
       → ((i : ℕ) → i < p → queued_at w.delivered w.closed order s i ≡ false)
       → ((i : ℕ) → q ≤ i → queued_at w.delivered w.closed order s i ≡ false)
-      → Knows T w order (record l { next = set l.next s v; low = set l.low s p; top = set l.top s q })
-  knows_looked p q h waits below above =
-      let k : Knows T w order (record l { next = set l.next s v; low = set l.low s p }) = knows_low T w order (record l { next = set l.next s v }) (knows_next T w order l g s v waits) s p below in
-      knows_top T w order (record l { next = set l.next s v; low = set l.low s p }) k s q h above
+      → Knows T w order (record l { next = record { at = set l.next.at s v; within = b }; low = set l.low s p; top = record { at = set l.top.at s q; within = h } })
+  knows_looked p q b h long waits below above =
+      let k : Knows T w order (record l { next = record { at = set l.next.at s v; within = b }; low = set l.low s p }) = knows_low T w order (record l { next = record { at = set l.next.at s v; within = b } }) (knows_next T w order l g s v b waits) s p below in
+      knows_top T w order (record l { next = record { at = set l.next.at s v; within = b }; low = set l.low s p }) k s q h long above
 
 module _ (T : Tables) (fits : Fits T) (w : Seen) (order : List ℕ) (o : Ordered w.places T.txns order) (s : ℕ) where
   -- the first position that waits has the next to deliver

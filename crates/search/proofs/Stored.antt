@@ -8,7 +8,8 @@ use Rattle.tables.specs.declared.Tables.{Tables}
 use Rattle.parts.specs.Cells.{nobody}
 use Rattle.refusals.specs.Refusals.{deliver_refusal_in}
 use Rattle.search.specs.Search.{Seen}
-use Rattle.search.specs.Known.{any, KnowsAt, PassedTo, closable_code, low_at, Knows, Ranged}
+use Rattle.search.specs.Known.{any, KnowsAt, PassedTo, closable_code, low_at, Knows}
+use Rattle.search.specs.Within.{Within}
 use Rattle.search.specs.declared.Closable.{Closable}
 use Rattle.search.specs.declared.Known.{Known}
 use Rattle.search.proofs.Entries.{codes_set}
@@ -54,13 +55,13 @@ module _ (T : Tables) (w : Seen) (order : List ℕ) (l : Known) (k : Knows T w o
     opened = k.opened;
   }
 
-  pub knows_next : (v : ℕ) → ((i : ℕ) → i < v → waits_at T w.places w.delivered order s i ≡ false) → Knows T w order (record l { next = set l.next s v })
-  knows_next v new = record {
+  pub knows_next : (v : ℕ) (b : Within (set l.next.at s v)) → ((i : ℕ) → i < v → waits_at T w.places w.delivered order s i ≡ false) → Knows T w order (record l { next = record { at = set l.next.at s v; within = b } })
+  knows_next v b new = record {
     ordered = k.ordered;
     closing = k.closing;
     stuck = k.stuck;
     passed = k.passed;
-    next = λ r i h. after l.next s v 0 r (λ x. i < x → waits_at T w.places w.delivered order r i ≡ false) (λ e. rw e (new i)) (λ q. absurd (omega arith)) (k.next r i h);
+    next = λ r i h. after l.next.at s v 0 r (λ x. i < x → waits_at T w.places w.delivered order r i ≡ false) (λ e. rw e (new i)) (λ q. absurd (omega arith)) (k.next r i h);
     low = k.low;
     top = k.top;
     opened = k.opened;
@@ -78,15 +79,15 @@ module _ (T : Tables) (w : Seen) (order : List ℕ) (l : Known) (k : Knows T w o
     opened = k.opened;
   }
 
-  pub knows_top : (v : ℕ) → s < length l.top → ((i : ℕ) → v ≤ i → queued_at w.delivered w.closed order s i ≡ false) → Knows T w order (record l { top = set l.top s v })
-  knows_top v b new = record {
+  pub knows_top : (v : ℕ) (b : Within (set l.top.at s v)) → s < length l.top.at → ((i : ℕ) → v ≤ i → queued_at w.delivered w.closed order s i ≡ false) → Knows T w order (record l { top = record { at = set l.top.at s v; within = b } })
+  knows_top v within b new = record {
     ordered = k.ordered;
     closing = k.closing;
     stuck = k.stuck;
     passed = k.passed;
     next = k.next;
     low = k.low;
-    top = λ r i h. after_in l.top s v 0 b r (λ x. x ≤ i → queued_at w.delivered w.closed order r i ≡ false) (λ e. rw e (new i)) (k.top r i h);
+    top = λ r i h. after_in l.top.at s v 0 b r (λ x. x ≤ i → queued_at w.delivered w.closed order r i ≡ false) (λ e. rw e (new i)) (k.top r i h);
     opened = k.opened;
   }
 
@@ -129,10 +130,3 @@ module _ (T : Tables) (w : Seen) (order : List ℕ) (l : Known) (k : Knows T w o
     top = k.top;
     opened = new;
   }
-
--- the numbers that stand for positions stay such, where one is stored
-pub ranged_top : (l : Known) (s v : ℕ) → Ranged l → v ≤ 128 → Ranged (record l { top = set l.top s v })
-ranged_top l s v g h = record { top = λ r a. after l.top s v 0 r (λ x. x ≤ 128) (λ _. h) (omega arith) (g.top r a); next = g.next }
-
-pub ranged_next : (l : Known) (s v : ℕ) → Ranged l → v ≤ 128 → Ranged (record l { next = set l.next s v })
-ranged_next l s v g h = record { top = g.top; next = λ r a. after l.next s v 0 r (λ x. x ≤ 128) (λ _. h) (omega arith) (g.next r a) }

@@ -53,13 +53,13 @@ closable_code closable.Anyone = any
 
 -- of site s: the first position that may wait there, the first that may be in its queue and the one past the last
 abbrev pub next_at : Known → ℕ → ℕ
-next_at l s = get_or l.next s 0
+next_at l s = get_or l.next.at s 0
 
 abbrev pub low_at : Known → ℕ → ℕ
 low_at l s = get_or l.low s 0
 
 abbrev pub top_at : Known → ℕ → ℕ
-top_at l s = get_or l.top s 0
+top_at l s = get_or l.top.at s 0
 
 -- what l says of the transactions in order is so
 pub record Knows (T : Tables) (w : Seen) (order : List ℕ) (l : Known) : Type 0 where
@@ -71,8 +71,3 @@ pub record Knows (T : Tables) (w : Seen) (order : List ℕ) (l : Known) : Type 0
   pub low : (s i : ℕ) → s < 16 → i < low_at l s → queued_at w.delivered w.closed order s i ≡ false
   pub top : (s i : ℕ) → s < 16 → top_at l s ≤ i → queued_at w.delivered w.closed order s i ≡ false
   pub opened : (i : ℕ) → i < l.open → get_or order i nobody < nobody → 256 ≤ get_or l.passed (get_or order i nobody) 0
-
--- the numbers that stand for positions are such
-pub record Ranged (l : Known) : Type 0 where
-  pub top : (s : ℕ) → s < 16 → top_at l s ≤ 128
-  pub next : (s : ℕ) → s < 16 → next_at l s ≤ 128

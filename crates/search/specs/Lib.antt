@@ -1,3 +1,4 @@
 pub mod Search
+pub mod Within
 pub mod Known
 pub mod Next

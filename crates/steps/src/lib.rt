@@ -36,7 +36,7 @@ pub enum Verdict {
     Abort = 2,
 }
 
-// What an accepted step answers; a vote is 0 for none, 1 for yes, else no, a verdict 1 for commit, 2 for abort.
+// What an accepted step answers. Vote and verdict are the numbers that the state keeps: CARRY may find any there.
 #[derive(Clone, Copy, Debug, PartialEq, Eq)]
 pub enum Answer {
     Read(Version, u32),
@@ -82,6 +82,7 @@ impl From<Result<Answer, StepRefusal>> for Numbers {
     }
 }
 
+// As of refusals, each says its own number in a word.
 impl Vote {
     // The number by which a vote is kept.
     pub fn number(self) -> u8

@@ -1,14 +1,15 @@
 -- One turn of the walk over groups, and what a refusal and its absence say.
 -- Assumes nothing.
-use Rattle.std.proofs.Common.{ℕ, suc, ◌+◌, ◌-◌, ◌≤◌, ◌<◌, ◌≡◌, refl, sym, ◌∙◌, cond, inl, inr, List, arith, leb, ltb, get_or, le-leb, ltb-true, ltb-false, ap, add-one, Result, Ok, Err, IsErrAnd}
+use Rattle.std.proofs.Common.{ℕ, suc, ◌+◌, ◌-◌, ◌≤◌, ◌<◌, ◌≡◌, refl, sym, ◌∙◌, cond, inl, inr, List, arith, leb, ltb, le-leb, ltb-true, ltb-false, ap, add-one, Result, Ok, Err, IsErrAnd}
 use Rattle.bounded.specs.Bounded.{first_of, or_else}
 use Rattle.bounded.proofs.Truth.{bool, or-false, passed}
 use Rattle.bounded.proofs.Laws.{of_none, else-keep, sum_up}
 use Rattle.numbers.specs.Numbers.{file_number, file_answer}
 use Rattle.numbers.specs.declared.FileRefusal.{FileRefusal}
 use Rattle.numbers.proofs.Laws.{file_above}
-use Rattle.tables.specs.Sites.{sites_in, keys_from}
+use Rattle.tables.specs.Sites.{size_in, mask_in, sites_in, keys_from}
 use Rattle.tables.specs.Judge.{group_refusal, size_refusal, count_refusal}
+use Rattle.tables.specs.declared.Group.{Group}
 use Rattle.tables.specs.declared.Tables.{Tables}
 
 -- what a `?` hands on
@@ -24,16 +25,16 @@ pub after : (x a b : ℕ) → 0 ≡ a → x ≡ b → x ≡ or_else a b
 after x a b e f = rw (← e) f
 
 -- where a group is left
-pub keys_turn : (n g : ℕ) (sizes masks : List ℕ) (s : ℕ) → g < n
-    → keys_from (n - g) g sizes masks s ≡ cond (ltb s (get_or sizes g 0)) (get_or masks g 0) (keys_from (n - (g + 1)) (g + 1) sizes masks (s - get_or sizes g 0))
-keys_turn n g sizes masks s l = rw e (unfold keys_from in refl)
+pub keys_turn : (n g : ℕ) (group : List Group) (s : ℕ) → g < n
+    → keys_from (n - g) g group s ≡ cond (ltb s (size_in group g)) (mask_in group g) (keys_from (n - (g + 1)) (g + 1) group (s - size_in group g))
+keys_turn n g group s l = rw e (unfold keys_from in refl)
   where
     e : n - g ≡ suc (n - (g + 1))
     e = omega arith
 
 -- the refusal of group g, where n counts the sites before it
-pub group_at : (T : Tables) (g n at size : ℕ) → at ≡ g → size ≡ get_or T.sizes at 0 → n ≡ sites_in T.sizes g
-    → size_refusal T.keys g (get_or T.sizes at 0) (n + size) (get_or T.masks at 0) ≡ group_refusal T g
+pub group_at : (T : Tables) (g n at size : ℕ) → at ≡ g → size ≡ size_in T.group at → n ≡ sites_in T.group g
+    → size_refusal T.keys g (size_in T.group at) (n + size) (mask_in T.group at) ≡ group_refusal T g
 group_at T g n at size a s e = rw (← add-one g, sum_up, ← e, s, a)
 
 -- counts that are not refused are at most eight
@@ -52,4 +53,4 @@ pub groups_low : (T : Tables) (n : ℕ) → first_of n (group_refusal T) ≡ 0 �
 groups_low T n h = elim (bool (ltb 8 n)) [ inl e ↦ absurd (omega (arith, past (ltb-true 8 n e))) | inr e ↦ ltb-false 8 n e ]
   where
     past : 8 < n → ◌≡◌ {A = ℕ} 5 0
-    past l = sym (ninth T.keys 8 (get_or T.sizes 8 0) (sites_in T.sizes 9) (get_or T.masks 8 0) (omega arith)) ∙ of_none n (group_refusal T) h 8 l
+    past l = sym (ninth T.keys 8 (size_in T.group 8) (sites_in T.group 9) (mask_in T.group 8) (omega arith)) ∙ of_none n (group_refusal T) h 8 l

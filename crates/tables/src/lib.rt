@@ -12,64 +12,87 @@ ghost use Rattle.tables.specs.Judge.{keys_refusal, size_refusal, group_refusal, 
 
 use numbers::FileRefusal;
 
+// A list of keys: the first `count` of these.
+#[derive(Clone, Copy, Debug, PartialEq, Eq)]
+pub struct Keys {
+    pub count: u8,
+    pub keys: [u8; 8],
+}
+
+// How many sites a group has, and the set of keys that all of them hold.
+#[derive(Clone, Copy, Debug, PartialEq, Eq)]
+pub struct Group {
+    pub sites: u8,
+    pub keys: u64,
+}
+
+// The keys that a transaction reads, those that it writes, and the value of each of these. The values stand apart, since
+// reads and writes are asked alike.
+#[derive(Clone, Copy, Debug, PartialEq, Eq)]
+pub struct Txn {
+    pub reads: Keys,
+    pub writes: Keys,
+    pub values: [u32; 8],
+}
+
+// A count over its limit can be handed in and nothing is allocated, so counts stand beside arrays.
 #[derive(Clone, Copy, Debug, PartialEq, Eq)]
 pub struct Tables {
     // Keys 0 to keys - 1, and the first value of each.
     pub keys: u8,
     pub first: [u32; 64],
-    // Each group's number of sites and the set of keys that all of them hold.
+    // The first `groups` and `txns` of these.
     pub groups: u8,
-    pub sizes: [u8; 8],
-    pub masks: [u64; 8],
-    // The i-th key that transaction t reads stands at t * 8 + i, and so do the keys that it writes and their values.
+    pub group: [Group; 8],
     pub txns: u8,
-    pub nreads: [u8; 128],
-    pub reads: [u8; 1024],
-    pub nwrites: [u8; 128],
-    pub writes: [u8; 1024],
-    pub gives: [u32; 1024],
+    pub txn: [Txn; 128],
 }
 
 pub fn no_tables() -> Tables
     ensures { result ≡ no_tables }
 {
+    let none = Keys {
+        count: 0,
+        keys: [0; 8],
+    };
     Tables {
         keys: 0,
-        first: [0u32; 64],
+        first: [0; 64],
         groups: 0,
-        sizes: [0u8; 8],
-        masks: [0u64; 8],
+        group: [Group { sites: 0, keys: 0 }; 8],
         txns: 0,
-        nreads: [0u8; 128],
-        reads: [0u8; 1024],
-        nwrites: [0u8; 128],
-        writes: [0u8; 1024],
-        gives: [0u32; 1024],
+        txn: [Txn {
+            reads: none,
+            writes: none,
+            values: [0; 8],
+        }; 128],
     }
 }
 
-// Whether k is among the first n keys of row t.
-fn in_row(row: &[u8; 1024], t: usize, n: usize, k: u8) -> bool
-    requires { (t < 128) × (n ≤ 8) }
-    ensures { result ≡ in_row row.now t n k }
-{
-    (0..n).any(|i| row[t * 8 + i] == k)
-}
+impl Keys {
+    // Whether k is among the first n.
+    fn has(&self, n: usize, k: u8) -> bool
+        requires { n ≤ 8 }
+        ensures { result ≡ in_row self.now.keys n k }
+    {
+        (0..n).any(|i| self.keys[i] == k)
+    }
 
-// Whether one of the first n keys of row t stands there twice.
-pub fn is_twice(row: &[u8; 1024], t: usize, n: usize) -> bool
-    requires { (t < 128) × (n ≤ 8) }
-    ensures { result ≡ twice row.now t n }
-{
-    (0..n).any(|i| in_row(row, t, i, row[t * 8 + i]))
-}
+    // Whether one of them stands there twice.
+    pub fn is_twice(&self) -> bool
+        requires { self.now.count ≤ 8 }
+        ensures { result ≡ twice self.now.keys self.now.count }
+    {
+        (0..usize::from(self.count)).any(|i| self.has(i, self.keys[i]))
+    }
 
-// Whether each of the first n keys of row t is below the number of keys.
-pub fn are_present(row: &[u8; 1024], t: usize, n: usize, keys: u8) -> bool
-    requires { (t < 128) × (n ≤ 8) }
-    ensures { result ≡ present row.now t n keys }
-{
-    (0..n).all(|i| row[t * 8 + i] < keys)
+    // Whether each of them is below the number of keys.
+    pub fn are_present(&self, keys: u8) -> bool
+        requires { self.now.count ≤ 8 }
+        ensures { result ≡ present self.now.keys self.now.count keys }
+    {
+        (0..usize::from(self.count)).all(|i| self.keys[i] < keys)
+    }
 }
 
 // The refusal that a number of keys has.
@@ -110,7 +133,7 @@ impl Tables {
     {
         let mut sum: usize = 0;
         for g in 0..usize::from(self.groups) {
-            sum += usize::from(self.sizes[g]);
+            sum += usize::from(self.group[g].sites);
         }
         sum
     }
@@ -122,9 +145,9 @@ impl Tables {
     {
         let mut left = s;
         for g in 0..usize::from(self.groups) {
-            let size = usize::from(self.sizes[g]);
+            let size = usize::from(self.group[g].sites);
             if left < size {
-                return self.masks[g];
+                return self.group[g].keys;
             }
             left -= size;
         }
@@ -134,9 +157,9 @@ impl Tables {
     // Whether a group holds key k.
     fn some_group(&self, k: usize) -> bool
         requires { self.now.groups ≤ 8 }
-        ensures { result ≡ some_group self.now.masks self.now.groups k }
+        ensures { result ≡ some_group self.now.group self.now.groups k }
     {
-        (0..usize::from(self.groups)).any(|g| keys::has(self.masks[g], k))
+        (0..usize::from(self.groups)).any(|g| keys::has(self.group[g].keys, k))
     }
 
     // The refusal that the keys of transaction t have.
@@ -145,14 +168,11 @@ impl Tables {
         requires t_bound_2 { (read_count self.now t ≤ 8) × (write_count self.now t ≤ 8) }
         ensures { file_answer result ≡ key_refusal self.now t }
     {
-        let r = usize::from(self.nreads[t]);
-        let w = usize::from(self.nwrites[t]);
-        if !are_present(&self.reads, t, r, self.keys)
-            || !are_present(&self.writes, t, w, self.keys)
-        {
+        let txn = &self.txn[t];
+        if !txn.reads.are_present(self.keys) || !txn.writes.are_present(self.keys) {
             return Err(FileRefusal::Range);
         }
-        if is_twice(&self.reads, t, r) || is_twice(&self.writes, t, w) {
+        if txn.reads.is_twice() || txn.writes.is_twice() {
             return Err(FileRefusal::Twice);
         }
         Ok(())
@@ -166,7 +186,7 @@ impl Tables {
             return Err(FileRefusal::Range);
         }
         let at = usize::from(t);
-        count_refusal(t, self.nreads[at], self.nwrites[at])?;
+        count_refusal(t, self.txn[at].reads.count, self.txn[at].writes.count)?;
         self.key_refusal(at)
     }
 
@@ -179,9 +199,9 @@ impl Tables {
             if 8 <= g {
                 return Err(FileRefusal::Range);
             }
-            let at = usize::from(g);
-            n += usize::from(self.sizes[at]);
-            group_refusal(self.keys, g, self.sizes[at], n, self.masks[at])?;
+            let group = &self.group[usize::from(g)];
+            n += usize::from(group.sites);
+            group_refusal(self.keys, g, group.sites, n, group.keys)?;
         }
         Ok(())
     }

@@ -3,14 +3,12 @@
 
 ghost use Rattle.std.specs.Prelude.{◌≤◌};
 
+use listing::MOST;
 use std::io;
 use std::io::Write;
 
 // Room for a file of any length in two bytes.
 const LONGEST_FILE: usize = 65535;
-
-// Room for the longest listing.
-const LONGEST_LISTING: usize = 774912;
 
 // The next n bytes, as a file.
 fn list_next(rt: &HostRuntime, n: usize) -> io::Result<()>
@@ -18,7 +16,7 @@ fn list_next(rt: &HostRuntime, n: usize) -> io::Result<()>
 {
     let mut file = input::zeros::<LONGEST_FILE>();
     let k = input::read_full(&mut rt.stdin(), &mut file[..n])?;
-    let mut out = input::zeros::<LONGEST_LISTING>();
+    let mut out = input::zeros::<MOST>();
     let end = listing::print(&file[..k], &mut out);
     rt.stdout().write_all(&out[..end])
 }

@@ -16,14 +16,14 @@ pub take-requires : goal.take-requires
 take-requires c = let i = good_is (sym c.judge_setup.ensures ∙ placed_ok _ _ _ c.in_ok-record.ensures) in
     record { lies = omega (arith, i.lies); fitting = i.fitting; allowed = (i.allowed, c.if-record-eq-END.false) }
 
-pub returns-in_err-placed : goal.returns-in_err-placed
+pub returns-in_err-t : goal.returns-in_err-t
 unfolding turn_of
-returns-in_err-placed c =
-    rw (c.take.ensures.then, handed _ _ c.from_residual-in_err-placed.ensures.1, ← c.judge_setup.ensures, placed_ok _ _ _ c.in_ok-record.ensures, ne_eqb _ _ c.if-record-eq-END.false)
-    (taken_err _ _ _ _ _ _ _ c.take.ensures.why c.in_err-placed.ensures)
+returns-in_err-t c =
+    rw (handed _ _ c.from_residual-in_err-t.ensures.1, ← c.judge_setup.ensures, placed_ok _ _ _ c.in_ok-record.ensures, ne_eqb _ _ c.if-record-eq-END.false)
+    (taken_err _ _ _ _ _ _ c.take.ensures _ c.in_err-t.ensures)
 
 pub returns : goal.returns
 unfolding turn_of
 returns c =
-    rw (c.take.ensures.then, ← c.judge_setup.ensures, placed_ok _ _ _ c.in_ok-record.ensures, ne_eqb _ _ c.if-record-eq-END.false)
-    (taken_ok _ _ _ _ _ _ c.take.ensures.why c.in_ok-placed.ensures)
+    rw (← c.judge_setup.ensures, placed_ok _ _ _ c.in_ok-record.ensures, ne_eqb _ _ c.if-record-eq-END.false)
+    (taken_ok _ _ _ _ _ _ c.take.ensures _ c.in_ok-t.ensures)

@@ -5,4 +5,4 @@ use Rattle.files.proofs.with_group.Goals as goal
 
 pub returns : goal.returns
 unfolding with_group
-returns c = rw (c.from-g.ensures, byte, c.read.ensures)
+returns c = rw (c.from.ensures, byte, c.read.ensures)

@@ -2,5 +2,5 @@
 use Rattle.keys.proofs.Laws.{clear_member}
 use Rattle.keys.proofs.without.Goals as goal
 
-pub returns : goal.returns
-returns c = λ j. clear_member c.args.m c.args.k j c.ranges.m.fits c.requires
+pub returns-clause-members : goal.returns-clause-members
+returns-clause-members c = λ j. clear_member c.args.m c.args.k j c.ranges.m.fits c.requires

@@ -8,8 +8,8 @@ use Rattle.known.proofs.Knows.{closed_any, closed_one}
 use Rattle.known.proofs.after_close.Goals as goal
 use Rattle.known.proofs.after_close.Goals.{in-Some, in-None}
 
-pub returns-after-head_at-clause-closed : goal.returns-after-head_at-clause-closed
-returns-after-head_at-clause-closed c T w versions t v fits written next new d e kept k =
+pub returns-after-head_at : goal.returns-after-head_at
+returns-after-head_at c T w versions t v fits written next new d e kept k =
     let a = c.args in
     let long : length a.w.now.closed ≡ 2048 = omega arith in
     let wide : length a.w.now.delivered ≡ 2048 = omega arith in
@@ -19,8 +19,8 @@ returns-after-head_at-clause-closed c T w versions t v fits written next new d e
     closed_one T fits w versions t a.s v next new (ap length e ∙ long) written kept _ a.known.now k (omega arith) c.head_from-p.result (ap length d ∙ wide)
     (rw (d, e) from.by_index) c.match-head_at.known one (rw (d, e) from.result_value) (code ∙ c.head_at.ensures.value)
 
-pub returns-else-ne-clause-closed : goal.returns-else-ne-clause-closed
-returns-else-ne-clause-closed c T w versions t v fits written next new d e kept k =
+pub returns-else-ne : goal.returns-else-ne
+returns-else-ne c T w versions t v fits written next new d e kept k =
     let a = c.args in
     let long : length a.w.now.closed ≡ 2048 = omega arith in
     let wide : length a.w.now.delivered ≡ 2048 = omega arith in

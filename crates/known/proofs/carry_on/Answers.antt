@@ -34,7 +34,7 @@ module _ (T : Tables) (fits : Fits T) (w v : Parts) (votes : v ≡ with_votes w 
       (on_handed T fits (seen w) order l t k q v.carried g h y room c hand m (rw same at now.0), now.1 ∙ ap (λ (u : Seen). eqb (closing T u t (q % 16)) 0) same)
 
 pub loop-q-init : goal.loop-q-init
-loop-q-init c = (omega arith, c.requires.laid.1, refl, refl, λ from to p k e. goes_first c.args.plan.now.tables p.fits _ _ c.args.known.now c.args.t from to k e)
+loop-q-init c = (omega arith, refl, refl, λ from to p k e. goes_first c.args.plan.now.tables p.fits _ _ c.args.known.now c.args.t from to k e)
 
 pub returns-then-closes_now-clause-carried : goal.returns-then-closes_now-clause-carried
 returns-then-closes_now-clause-carried c from to p k e =
@@ -43,11 +43,11 @@ returns-then-closes_now-clause-carried c from to p k e =
     let T = a.plan.now.tables in
     let w = seen a.w.now in
     let kept = c.closes_now.ensures.kept in
-    let x = (carries T p.fits a.w.now b.w b.invariant.3 (codes a.order.now) b.known c.closes_now.new.known a.t b.k b.q c.hand.new.carried c.closes_now.result
-    (b.invariant.4 from to p k e) c.loop-q-test.true (sym (c.can_carry.ensures p) ∙ c.if-can_carry.true)
+    let x = (carries T p.fits a.w.now b.w b.invariant.2 (codes a.order.now) b.known c.closes_now.new.known a.t b.k b.q c.hand.new.carried c.closes_now.result
+    (b.invariant.3 from to p k e) c.loop-q-test.true (sym (c.can_carry.ensures p) ∙ c.if-can_carry.true)
     c.hand.ensures c.hand.array_long.6 (omega arith) (λ at new. c.closes_now.ensures.knows p (rw p.sites at) new)).0 in (
       x.carried,
-      (handed_ends T p.fits w (codes a.order.now) c.closes_now.new.known a.t b.k b.q c.hand.new.carried x (omega (arith, ap (λ (l : Known). length l.passed) kept)) (λ i h y. goes_opened T p.fits w (codes a.order.now) a.known.now a.t from to k e i (omega (arith, ap (λ (l : Known). l.open) kept, b.invariant.2)) y), λ _. omega arith),
+      (handed_ends T p.fits w (codes a.order.now) c.closes_now.new.known a.t b.k b.q c.hand.new.carried x (omega (arith, ap (λ (l : Known). length l.passed) kept)) (λ i h y. goes_opened T p.fits w (codes a.order.now) a.known.now a.t from to k e i (omega (arith, ap (λ (l : Known). l.open) kept, b.invariant.1)) y), λ _. omega arith),
     )
 
 pub loop-q-preserved : goal.loop-q-preserved
@@ -61,12 +61,11 @@ loop-q-preserved c =
           let kept = w.closes_now.ensures.kept in
           rw (w.w-is, w.known-is, w.k-is) (
             omega arith,
-            record { top = w.closes_now.ensures.ranged.top; next = w.closes_now.ensures.ranged.next },
-            ap (λ (l : Known). l.open) kept ∙ b.invariant.2,
-            ap (λ (v : Parts). with_votes v w.hand.new.carried) b.invariant.3,
+            ap (λ (l : Known). l.open) kept ∙ b.invariant.1,
+            ap (λ (v : Parts). with_votes v w.hand.new.carried) b.invariant.2,
             λ from to p k e.
-                let x = carries T p.fits a.w.now b.w b.invariant.3 (codes a.order.now) b.known told a.t b.k b.q w.hand.new.carried w.closes_now.result
-                (b.invariant.4 from to p k e) c.loop-q-test.true (sym (c.can_carry.ensures p) ∙ w.if-can_carry.true)
+                let x = carries T p.fits a.w.now b.w b.invariant.2 (codes a.order.now) b.known told a.t b.k b.q w.hand.new.carried w.closes_now.result
+                (b.invariant.3 from to p k e) c.loop-q-test.true (sym (c.can_carry.ensures p) ∙ w.if-can_carry.true)
                 w.hand.ensures w.hand.array_long.6 (omega arith) (λ at new. w.closes_now.ensures.knows p (rw p.sites at) new) in
                 handed_goes T p.fits (seen a.w.now) (codes a.order.now) told a.t b.k b.q w.hand.new.carried x.0 (sym x.1 ∙ w.if-closes_now.false),
           )
@@ -75,18 +74,17 @@ loop-q-preserved c =
             b.invariant.0,
             b.invariant.1,
             b.invariant.2,
-            b.invariant.3,
-            λ from to p k e. goes_by T p.fits _ _ _ _ _ _ _ (b.invariant.4 from to p k e) (ap (λ (v : Parts). eqb (carry_refusal_in T v.cast b.w.carried a.t (b.q / 16) (b.q % 16)) 0) (sym b.invariant.3) ∙ sym (c.can_carry.ensures p) ∙ w.if-can_carry.false),
+            λ from to p k e. goes_by T p.fits _ _ _ _ _ _ _ (b.invariant.3 from to p k e) (ap (λ (v : Parts). eqb (carry_refusal_in T v.cast b.w.carried a.t (b.q / 16) (b.q % 16)) 0) (sym b.invariant.2) ∙ sym (c.can_carry.ensures p) ∙ w.if-can_carry.false),
           )
     ]
 
 pub returns-clause-carried : goal.returns-clause-carried
 returns-clause-carried c from to p k e =
     let b = c.loop-q in
-    let g = b.invariant.4 from to p k e in (
+    let g = b.invariant.3 from to p k e in (
       g.carried,
       (
-        goes_known _ p.fits _ _ _ _ _ _ _ g (omega arith) (λ i h y. goes_opened _ p.fits _ _ _ _ from to k e i (rw (← b.invariant.2) h) y),
+        goes_known _ p.fits _ _ _ _ _ _ _ g (omega arith) (λ i h y. goes_opened _ p.fits _ _ _ _ from to k e i (rw (← b.invariant.1) h) y),
         λ m. elim c.loop-q-test.branch [
           | then-loop-q-test+else-k-n w ↦ omega (arith, w.if-k-n.false)
           | else-loop-q-test w ↦ goes_some _ p.fits _ _ _ _ from to k e _ _ _ _ w.loop-q-test.false g

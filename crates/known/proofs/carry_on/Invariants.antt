@@ -6,12 +6,12 @@ use Rattle.plan.specs.Planned.{Planned}
 use Rattle.parts.specs.Changed.{with_votes}
 use Rattle.order.specs.Order.{codes}
 use Rattle.search.specs.Search.{Carry, seen, todo_in}
-use Rattle.search.specs.Known.{Knows, Ranged}
+use Rattle.search.specs.Known.{Knows}
 use Rattle.known.proofs.Handing.{Goes}
 use Rattle.known.proofs.carry_on.Given as goal
 
 abbrev pub invariant-loop-q : goal.invariant-loop-q
-invariant-loop-q l = (l.k ≤ l.n) × Ranged l.known × (l.known.open ≡ l.initial.known.open) × (l.w ≡ with_votes l.initial.w l.w.carried)
+invariant-loop-q l = (l.k ≤ l.n) × (l.known.open ≡ l.initial.known.open) × (l.w ≡ with_votes l.initial.w l.w.carried)
     × ((from to : ℕ) → Planned l.plan
     → Knows l.plan.tables (seen l.initial.w) (codes l.order) l.initial.known
     → todo_in l.plan.tables (seen l.initial.w) ≡ Carry l.t from to

@@ -10,8 +10,8 @@ use Rattle.parts.specs.Cells.{nobody}
 use Rattle.known.proofs.Knows.{codes_any}
 use Rattle.known.proofs.first_known.Goals as goal
 
-pub returns-clause-knows : goal.returns-clause-knows
-returns-clause-knows c T w order o long wide = record {
+pub returns : goal.returns
+returns c T w order o long wide = record {
   ordered = o;
   closing = codes_any T w 16;
   stuck = λ s x z. clash x (replicated 16 s false);

@@ -16,17 +16,17 @@ deliver_at-requires-clause-t_bound c = low (goal.at.deliver_at-requires-clause-t
 
 pub after_deliver-requires-clause-t_bound : goal.after_deliver-requires-clause-t_bound
 after_deliver-requires-clause-t_bound c = let (x, y) = low (goal.at.after_deliver-requires-clause-t_bound c).After-from-site in
-    (omega (arith, x, c.requires.ready.0.0.laid.txns), (y, c.requires.ranged.1))
+    (omega (arith, x, c.requires.ready.0.0.laid.txns), (y, c.requires.p_bound))
 
-pub returns-in-Some-clause-turns : goal.returns-in-Some-clause-turns
-returns-in-Some-clause-turns c = λ k.
+pub returns-in-Some : goal.returns-in-Some
+returns-in-Some c = λ k.
     let (r, (e, q)) = c.requires.ready in
     let d = c.deliver_at.ensures in
     let b = c.from-site.ensures in
     let t = c.in-Some.ensures.value in
-    let known = rw b at c.after_deliver.ensures.knows in
+    let known = rw b at c.after_deliver.ensures in
     turn_delivers _ r.1 _ _ _ _ _ _ e (t ∙ q) (rw b at (d.value r.0)) (rw (d.parts, b))
-    (known _ _ _ r.0 e (sym t) (low (goal.at.returns-in-Some-clause-turns c).After-from-site).0 (rw d.parts) k)
+    (known _ _ _ r.0 e (sym t) (low (goal.at.returns-in-Some c).After-from-site).0 (rw d.parts) k)
 
-pub returns-in_default-clause-turns : goal.returns-in_default-clause-turns
-returns-in_default-clause-turns c = let (r, (e, q)) = c.requires.ready in absurd (omega (arith, (delivers _ r.1 e).1, r.0.fits.txns, q, c.in_default.ensures.value))
+pub returns-in_default : goal.returns-in_default
+returns-in_default c = let (r, (e, q)) = c.requires.ready in absurd (omega (arith, (delivers _ r.1 e).1, r.0.fits.txns, q, c.in_default.ensures.value))

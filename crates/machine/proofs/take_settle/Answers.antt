@@ -11,10 +11,10 @@ pub loop-n-init : goal.loop-n-init
 loop-n-init c =
     let long : length c.args.w.now.delivered ≡ 2048 = omega arith in
     let all : length (codes c.order_of-order.result) ≡ 128 = omega (arith, length-map c.order_of-order.result code) in
-    (omega arith, c.first_known-known.ensures.ranged, going_first _ _ _ c.requires.1 (c.first_known-known.ensures.knows _ _ _ c.order_of-order.ensures all long))
+    (omega arith, going_first _ _ _ c.requires.1 (c.first_known-known.ensures _ _ _ c.order_of-order.ensures all long))
 
 pub returns-then-k-eq0 : goal.returns-then-k-eq0
-returns-then-k-eq0 c = λ _. let g = c.loop-n.invariant.2 in going_stops _ _ _ _ _ g _ _ _ c.loop-n-test.true c.if-k-eq0.true (c.turn-k.ensures.turns g.knows)
+returns-then-k-eq0 c = λ _. let g = c.loop-n.invariant.1 in going_stops _ _ _ _ _ g _ _ _ c.loop-n-test.true c.if-k-eq0.true (c.turn-k.ensures.turns g.knows)
 
 pub returns-after-loop-n : goal.returns-after-loop-n
-returns-after-loop-n c = λ _. going_ends _ _ _ _ _ c.loop-n.invariant.2 c.loop-n-test.false
+returns-after-loop-n c = λ _. going_ends _ _ _ _ _ c.loop-n.invariant.1 c.loop-n-test.false

@@ -7,9 +7,9 @@ use Rattle.machine.proofs.Loop.{carries, turn_carries}
 use Rattle.machine.proofs.turn.Goals as goal
 use Rattle.machine.proofs.turn.Goals.{In-Some-Carry}
 
-pub deliver_next-requires-clause-ranged : goal.deliver_next-requires-clause-ranged
-deliver_next-requires-clause-ranged c = let a = c.in-Some-Deliver in
-    (c.next_step.ensures.ranged, (c.next_step.ensures.by_index _ _ (rw a.field-0-is at a.is)).0)
+pub deliver_next-requires-clause-p_bound : goal.deliver_next-requires-clause-p_bound
+deliver_next-requires-clause-p_bound c = let a = c.in-Some-Deliver in
+    (c.next_step.ensures.by_index _ _ (rw a.field-0-is at a.is)).0
 
 -- what comes next
 next : (c : In-Some-Carry) → todo (state_of c.args.plan.now c.args.w.now) ≡ Carry c.in-Some-Carry.t c.in-Some-Carry.field-0-1 c.in-Some-Carry.field-0-2
@@ -24,4 +24,4 @@ returns-in-Some-Carry-clause-turns c = λ k.
     let knows = (c.next_step.ensures.value r.0 k).1 in
     let g = rw c.from.ensures at c.carry_on.ensures.carried in
     let h = g _ _ r.0 knows (next (goal.at.returns-in-Some-Carry-clause-turns c).In-Some-Carry) in
-    rw c.carry_on.ensures.kept (turn_carries _ r.1 _ _ _ _ (h.1.1 c.requires.ranged.1) h.0 h.1.0)
+    rw c.carry_on.ensures.kept (turn_carries _ r.1 _ _ _ _ (h.1.1 c.requires.n_bound) h.0 h.1.0)

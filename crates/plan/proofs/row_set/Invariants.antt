@@ -5,4 +5,4 @@ use Rattle.tables.specs.Lists.{in_row}
 use Rattle.plan.proofs.row_set.Given as goal
 
 abbrev pub invariant-loop-i : goal.invariant-loop-i
-invariant-loop-i l = (k : ℕ) → member l.m k ≡ in_row l.row l.t l.i k
+invariant-loop-i l = (k : ℕ) → member l.m k ≡ in_row l.row.keys l.i k

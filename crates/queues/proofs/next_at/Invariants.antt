@@ -9,4 +9,4 @@ use Rattle.queues.proofs.next_at.Given as goal
 abbrev pub invariant-loop-t : goal.invariant-loop-t
 invariant-loop-t l = let T = l.plan.tables in
     IfSome l.found (λ u. u < T.txns)
-    × (Planned l.plan → unwrap_or l.found nobody ≡ next_in l.w.places l.w.delivered T.reads T.nreads T.writes T.nwrites l.t (site_keys T l.s) l.s)
+    × (Planned l.plan → unwrap_or l.found nobody ≡ next_in l.w.places l.w.delivered T.txn l.t (site_keys T l.s) l.s)

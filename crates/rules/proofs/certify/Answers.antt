@@ -3,7 +3,7 @@ use Rattle.std.proofs.Common.{arith, rules, ◌≡◌, ◌∙◌, refl, sym, ap,
 use Rattle.std.proofs.lemmas.Iterator.{YieldsList-from_range}
 use Rattle.std.proofs.lemmas.Iterator.Search.{all_from_yields_List}
 use Rattle.bounded.proofs.Ranges.{all_in_range}
-use Rattle.tables.specs.Lists.{read_count}
+use Rattle.tables.specs.Lists.{read_row, read_count}
 use Rattle.tables.specs.Sites.{site_keys}
 use Rattle.plan.specs.Planned.{Planned}
 use Rattle.rules.specs.Votes.{certify_in}
@@ -11,7 +11,7 @@ use Rattle.rules.proofs.certify.Goals as goal
 use Rattle.rules.proofs.certify.Goals.{After-all-is_yes}
 
 asked : (c : After-all-is_yes) → Planned c.args.plan.now
-    → certify_in c.args.w.now.versions c.args.w.now.readversions c.args.w.now.recorded c.args.plan.now.tables.reads (read_count c.args.plan.now.tables c.args.t) c.args.t c.args.s (site_keys c.args.plan.now.tables c.args.s)
+    → certify_in c.args.w.now.versions c.args.w.now.readversions c.args.w.now.recorded (read_row c.args.plan.now.tables c.args.t) (read_count c.args.plan.now.tables c.args.t) c.args.t c.args.s (site_keys c.args.plan.now.tables c.args.s)
     ≡ cond c.all-is_yes.result 1 2
 unfolding certify_in
 asked c p = rw (← p.site_sets c.args.s c.requires.t_bound.1) (ap (λ b. cond b 1 2) (sym (

@@ -8,6 +8,7 @@ use Rattle.plan.specs.Planned.{Planned}
 use Rattle.queues.specs.Queue.{next_of}
 use Rattle.refusals.specs.Refusals.{deliver_refusal_in}
 use Rattle.search.specs.Search.{seen}
+use Rattle.search.specs.Within.{Within}
 use Rattle.search.specs.Known.{Knows}
 use Rattle.search.proofs.Stored.{knows_next, knows_below}
 use Rattle.search.proofs.Carrying.{waits_to, queue_ends, knows_looked, next_found, next-none, deliver_answers, deliver_none}
@@ -15,7 +16,7 @@ use Rattle.search.proofs.can_deliver.Goals as goal
 use Rattle.search.proofs.can_deliver.Goals.{Start, After-unwrap_or, After-last_to-q, After-is_blocked}
 
 site : (c : Start) → c.args.s < 16
-site c = omega (arith, c.requires.s_bound, c.requires.laid.0.sites)
+site c = omega (arith, c.requires.s_bound, c.requires.laid.sites)
 
 -- none waits before the position found
 waits : (c : After-unwrap_or) → Planned c.args.plan.now → Knows c.args.plan.now.tables (seen c.args.w.now) (codes c.args.order.now) c.args.known.now → c.args.s < 16
@@ -32,7 +33,7 @@ returns-in_err-at-clause-knows c p k =
     let order = codes c.args.order.now in
     let s = c.args.s in
     let none = waits past.After-unwrap_or p k (site past.Start) in (
-      knows_next T w order c.args.known.now k s c.unwrap_or.result none,
+      knows_next T w order c.args.known.now k s c.unwrap_or.result _ none,
       (
         rw c.from_residual.ensures tt,
         λ _. deliver_none T w s (rw (← p.sites) c.requires.s_bound) (next-none T p.fits w order k.ordered s (λ j m. none j (rw (c.unwrap_or.ensures, c.in_err-at.was) m))),
@@ -48,16 +49,16 @@ returns-in_err-t-clause-knows c p k =
     clash ((c.in_ok-at.ensures.by_index p k.ordered).1 c.in_ok-at.ensures.bound.1) (none_waits c.args.plan.now.tables c.args.w.now.places c.args.w.now.delivered order c.args.s at long none)
 
 -- what is known with the three positions stored
-knows : (c : After-last_to-q) → Planned c.args.plan.now → Knows c.args.plan.now.tables (seen c.args.w.now) (codes c.args.order.now) c.args.known.now → c.args.s < 16
+knows : (c : After-last_to-q) (b : Within (set c.args.known.now.next.at c.args.s c.unwrap_or.result)) (h : Within (set c.args.known.now.top.at c.args.s c.last_to-q.result)) → Planned c.args.plan.now → Knows c.args.plan.now.tables (seen c.args.w.now) (codes c.args.order.now) c.args.known.now → c.args.s < 16
     → ((i : ℕ) → i < c.unwrap_or.result → waits_at c.args.plan.now.tables c.args.w.now.places c.args.w.now.delivered (codes c.args.order.now) c.args.s i ≡ false)
     → Knows c.args.plan.now.tables (seen c.args.w.now) (codes c.args.order.now)
-    (record c.args.known.now { next = set c.args.known.now.next c.args.s c.unwrap_or.result; low = set c.args.known.now.low c.args.s c.head_from-p.result; top = set c.args.known.now.top c.args.s c.last_to-q.result })
-knows c p k low none =
+    (record c.args.known.now { next = record { at = set c.args.known.now.next.at c.args.s c.unwrap_or.result; within = b }; low = set c.args.known.now.low c.args.s c.head_from-p.result; top = record { at = set c.args.known.now.top.at c.args.s c.last_to-q.result; within = h } })
+knows c b h p k low none =
     let T = c.args.plan.now.tables in
     let w = seen c.args.w.now in
     let order = codes c.args.order.now in
     let below = knows_below T w order c.args.known.now k c.args.s low c.head_from-p.result c.head_from-p.ensures.by_index in
-    knows_looked T w order c.args.known.now k c.args.s c.unwrap_or.result low c.head_from-p.result c.last_to-q.result (search rules) none below
+    knows_looked T w order c.args.known.now k c.args.s c.unwrap_or.result low c.head_from-p.result c.last_to-q.result b h (search rules) none below
     (queue_ends T w order c.args.known.now k c.args.s c.last_to-q.result low c.head_from-p.result below c.last_to-q.ensures.by_index)
 
 -- the transaction at the position found is the next
@@ -94,7 +95,7 @@ returns-then-is_blocked-clause-knows c p k =
     let low = site past.Start in
     let none = waits past.After-unwrap_or p k low in
     let found = next past.After-is_blocked p k low none in
-    (knows past.After-last_to-q p k low none, (tt, λ _. sym (judged past.After-is_blocked p k low found) ∙ rw c.if-is_blocked.true refl))
+    (knows past.After-last_to-q _ _ p k low none, (tt, λ _. sym (judged past.After-is_blocked p k low found) ∙ rw c.if-is_blocked.true refl))
 
 pub returns-else-is_blocked-clause-knows : goal.returns-else-is_blocked-clause-knows
 returns-else-is_blocked-clause-knows c p k =
@@ -102,6 +103,6 @@ returns-else-is_blocked-clause-knows c p k =
     let low = site past.Start in
     let none = waits past.After-unwrap_or p k low in
     let found = next past.After-is_blocked p k low none in (
-      knows past.After-last_to-q p k low none,
+      knows past.After-last_to-q _ _ p k low none,
       ((eqb-true _ _ (sym (judged past.After-is_blocked p k low found) ∙ rw c.if-is_blocked.false refl), sym c.in_ok-t.ensures.value ∙ sym found), λ e. clash refl e),
     )

@@ -31,7 +31,7 @@ returns-in-Some-pair-clause-knows c p k₀ =
     let T = c.args.plan.now.tables in
     let w = seen c.args.w.now in
     let order = codes c.args.order.now in
-    let k = c.loop-i.invariant.1 p k₀ in
+    let k = c.loop-i.invariant p k₀ in
     let t = c.in_ok-t.t in
     let q = c.in-Some-pair.q in
     let e : c.unwrap_or.result ≡ q = c.unwrap_or.ensures ∙ rw c.in-Some-pair.is refl in
@@ -49,16 +49,14 @@ returns-in-Some-pair-clause-knows c p k₀ =
     )
 
 pub loop-i-preserved : goal.loop-i-preserved
-loop-i-preserved c =
-    let g = c.loop-i.invariant in
-    (record { top = g.0.top; next = g.0.next }, λ p k₀. knows (goal.at.loop-i-preserved c).After-unwrap_or p (g.1 p k₀))
+loop-i-preserved c p k₀ = knows (goal.at.loop-i-preserved c).After-unwrap_or p (c.loop-i.invariant p k₀)
 
 pub returns-clause-knows : goal.returns-clause-knows
 returns-clause-knows c p k₀ =
     let T = c.args.plan.now.tables in
     let w = seen c.args.w.now in
     let order = codes c.args.order.now in
-    let k = c.loop-i.invariant.1 p k₀ in (
+    let k = c.loop-i.invariant p k₀ in (
       knows_sought T w order c.loop-i.known k 128 c.in_default.ensures.by_index,
       (tt, λ _. none_open T w order c.loop-i.known k 128 c.in_default.ensures.by_index p.fits (omega arith)),
     )

@@ -2,12 +2,12 @@
 use Rattle.order.specs.Order.{codes}
 use Rattle.plan.specs.Planned.{Planned}
 use Rattle.search.specs.Search.{seen}
-use Rattle.search.specs.Known.{Knows, Ranged}
+use Rattle.search.specs.Known.{Knows}
 use Rattle.search.proofs.Carrying.{tries}
 use Rattle.search.proofs.first_carrying.Given as goal
 
 abbrev pub invariant-loop-i : goal.invariant-loop-i
-invariant-loop-i l = Ranged l.known × (Planned l.plan → Knows l.plan.tables (seen l.w) (codes l.order) l.initial.known → Knows l.plan.tables (seen l.w) (codes l.order) l.known)
+invariant-loop-i l = Planned l.plan → Knows l.plan.tables (seen l.w) (codes l.order) l.initial.known → Knows l.plan.tables (seen l.w) (codes l.order) l.known
 
 abbrev pub decreases-loop-i : goal.decreases-loop-i
 decreases-loop-i l = tries (codes l.order) l.known

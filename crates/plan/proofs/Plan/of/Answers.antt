@@ -1,4 +1,6 @@
-use Rattle.std.proofs.Common.{rules, refl, ◌∙◌, ◌≡◌, ◌<◌, ℕ, get_or}
+use Rattle.std.proofs.Common.{rules, refl, ◌∙◌, ◌≡◌, ◌<◌, ℕ, get_or, lt-ltb}
+use Rattle.keys.specs.Keys.{member}
+use Rattle.tables.specs.Lists.{in_row, read_row, read_count, write_row, write_count}
 use Rattle.tables.specs.Sites.{site_count, site_keys}
 use Rattle.plan.proofs.Questions.{holders_same}
 use Rattle.plan.proofs.Made.{made}
@@ -20,7 +22,7 @@ returns c =
         sites = c.sites-sites.ensures.0;
         site_sets = keys;
         holders = λ k s l. c.holder_sets.ensures k s l ∙ rw c.sites-sites.ensures.0 (holders_same (site_count c.args.tables) k (site_keys c.args.tables) (λ i. get_or c.from_fn-site_sets.result i 0) c.requires.fits.sites keys s);
-        read_sets = λ t k l. c.row_sets.ensures t k (rw c.from-n.ensures l);
-        write_sets = λ t k l. c.row_sets-2.ensures t k (rw c.from-n.ensures l);
+        read_sets = λ t k l. made _ _ (λ t x. t < c.args.tables.txns → (k : ℕ) → member x k ≡ in_row (read_row c.args.tables t) (read_count c.args.tables t) k) (λ x y q h. (search rules, λ u k. search (rules, lt-ltb x _ u))) _ 128 c.from_fn.ensures.items t 0 (search rules) l k;
+        write_sets = λ t k l. made _ _ (λ t x. t < c.args.tables.txns → (k : ℕ) → member x k ≡ in_row (write_row c.args.tables t) (write_count c.args.tables t) k) (λ x y q h. (search rules, λ u k. search (rules, lt-ltb x _ u))) _ 128 c.from_fn-2.ensures.items t 0 (search rules) l k;
       },
     )

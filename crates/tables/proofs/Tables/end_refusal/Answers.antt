@@ -9,10 +9,10 @@ use Rattle.tables.proofs.Tables.end_refusal.Goals as goal
 use Rattle.tables.proofs.Tables.end_refusal.Goals.{After-all}
 
 -- what the chain answers
-held : (c : After-all) → c.all.result ≡ all_below c.args.self.now.keys (some_group c.args.self.now.masks c.args.self.now.groups)
+held : (c : After-all) → c.all.result ≡ all_below c.args.self.now.keys (some_group c.args.self.now.group c.args.self.now.groups)
 held c =
-    all_from_yields_List (some_group c.args.self.now.masks c.args.self.now.groups) _ _ _ c.all.ensures.ran (YieldsList-from_range 0 c.args.self.now.keys c.args.self.now.keys (search rules) (omega arith)) (λ x b q h. search rules)
-    ∙ all_in_range c.args.self.now.keys (some_group c.args.self.now.masks c.args.self.now.groups)
+    all_from_yields_List (some_group c.args.self.now.group c.args.self.now.groups) _ _ _ c.all.ensures.ran (YieldsList-from_range 0 c.args.self.now.keys c.args.self.now.keys (search rules) (omega arith)) (λ x b q h. search rules)
+    ∙ all_in_range c.args.self.now.keys (some_group c.args.self.now.group c.args.self.now.groups)
 
 pub returns-then-all : goal.returns-then-all
 unfolding end_refusal

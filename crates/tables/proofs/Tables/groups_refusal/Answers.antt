@@ -15,11 +15,11 @@ returns-then-g-ge8 c = stops _ _ _ _ c.loop-g-test.true c.loop-g.invariant.0 (sy
 pub returns-in_err-group_refusal : goal.returns-in_err-group_refusal
 returns-in_err-group_refusal c =
     handed _ _ c.from_residual.ensures.1
-    ∙ stops _ _ _ _ c.loop-g-test.true c.loop-g.invariant.0 (c.in_err-group_refusal.ensures ∙ group_at c.args.self.now _ _ _ _ c.from-at.ensures c.from-n.ensures c.loop-g.invariant.1) (file_above _)
+    ∙ stops _ _ _ _ c.loop-g-test.true c.loop-g.invariant.0 (c.in_err-group_refusal.ensures ∙ group_at c.args.self.now _ _ _ _ c.from.ensures c.from-n.ensures c.loop-g.invariant.1) (file_above _)
 
 pub loop-g-preserved : goal.loop-g-preserved
 loop-g-preserved c = (
-  rw (of_up, c.loop-g.invariant.0) (sym (c.in_ok-group_refusal.ensures ∙ group_at c.args.self.now _ _ _ _ c.from-at.ensures c.from-n.ensures c.loop-g.invariant.1)),
-  rw (sum_up, c.loop-g.invariant.1, c.from-n.ensures, c.from-at.ensures),
+  rw (of_up, c.loop-g.invariant.0) (sym (c.in_ok-group_refusal.ensures ∙ group_at c.args.self.now _ _ _ _ c.from.ensures c.from-n.ensures c.loop-g.invariant.1)),
+  rw (sum_up, c.loop-g.invariant.1, c.from-n.ensures, c.from.ensures),
   omega (arith, c.loop-g.invariant.2),
 )

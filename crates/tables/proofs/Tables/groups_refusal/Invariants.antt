@@ -6,4 +6,4 @@ use Rattle.tables.specs.Sites.{sites_in}
 use Rattle.tables.proofs.Tables.groups_refusal.Given as goal
 
 abbrev pub invariant-loop-g : goal.invariant-loop-g
-invariant-loop-g l = (first_of l.g (group_refusal l.self) ≡ 0) × (l.n ≡ sites_in l.self.sizes l.g) × (l.n ≤ 255 * l.g)
+invariant-loop-g l = (first_of l.g (group_refusal l.self) ≡ 0) × (l.n ≡ sites_in l.self.group l.g) × (l.n ≤ 255 * l.g)

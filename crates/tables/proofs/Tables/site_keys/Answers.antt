@@ -6,12 +6,12 @@ use Rattle.tables.proofs.Tables.site_keys.Goals as goal
 pub returns-then-left-size : goal.returns-then-left-size
 returns-then-left-size c =
     let l : c.loop-g.g < c.args.self.now.groups = omega arith in
-    rw (← c.loop-g.invariant, keys_turn _ _ _ _ _ l, ← c.from-size.ensures, lt-ltb _ _ c.if-left-size.true)
+    rw (← c.loop-g.invariant, keys_turn _ _ _ _ l, ← c.from-size.ensures, lt-ltb _ _ c.if-left-size.true)
 
 pub loop-g-preserved : goal.loop-g-preserved
 loop-g-preserved c =
     let l : c.loop-g.g < c.args.self.now.groups = omega arith in
-    rw (← c.loop-g.invariant, keys_turn _ _ _ _ _ l, ← c.from-size.ensures, le-ltb _ _ c.if-left-size.false)
+    rw (← c.loop-g.invariant, keys_turn _ _ _ _ l, ← c.from-size.ensures, le-ltb _ _ c.if-left-size.false)
 
 pub returns : goal.returns
 unfolding keys_from

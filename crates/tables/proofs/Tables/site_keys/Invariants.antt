@@ -4,4 +4,4 @@ use Rattle.tables.specs.Sites.{keys_from}
 use Rattle.tables.proofs.Tables.site_keys.Given as goal
 
 abbrev pub invariant-loop-g : goal.invariant-loop-g
-invariant-loop-g l = keys_from (l.self.groups - l.g) l.g l.self.sizes l.self.masks l.left ≡ keys_from l.self.groups 0 l.self.sizes l.self.masks l.s
+invariant-loop-g l = keys_from (l.self.groups - l.g) l.g l.self.group l.left ≡ keys_from l.self.groups 0 l.self.group l.s
