@@ -1,4 +1,5 @@
 -- Cases A to K: one list, one claim.
+use Rattle.files.specs.declared.Where.{Where}
 use Rattle.std.specs.Prelude.{ℕ, Bool, true, false, ◌&&◌, List, [], ◌∷◌, ◌≡◌, refl, eqb, take, drop, Ok, Err}
 use Prim.Native.String.{String}
 use Rattle.files.specs.Walk.{walk}
@@ -7,7 +8,7 @@ use Rattle.files.specs.Setup.{allowed, taken, ended, turn_of, setup_turn, read_f
 use Rattle.files.specs.Schedule.{in_schedule, schedule_turn, read_schedule, step_by, steps_from, steps_of}
 use Rattle.files.specs.Rows.{with_keys, with_group, with_txn}
 use Rattle.files.specs.File.{file_of}
-use Rattle.files.specs.declared.File.{File}
+use Rattle.files.specs.declared.Reading.{Reading}
 use Rattle.queues.specs.Queue.{head_in, blocked_in, next_in, submitted_in}
 use Rattle.lines.specs.Lines.{step_lines, verdict_in, item_lines, state_lines}
 use Rattle.bounded.specs.Bounded.{any_below, all_below, sum_below, first_below, first_of, list_from}
@@ -62,7 +63,7 @@ verdicts : State → List (List ℕ)
 verdicts st = list_from 0 st.tables.txns (λ t. list_from 0 (site_count st.tables) (closed_at st t))
 
 -- of a file that is run, the verdicts at its end; of a refused one, none
-closed_by : List ℕ → File → List (List ℕ)
+closed_by : List ℕ → Reading Where → List (List ℕ)
 closed_by schedule f = elim f.outcome [ Ok _ ↦ verdicts (end_of (fresh_of f.tables).state (steps_of schedule)) | Err _ ↦ [] ]
 
 closed_of : List ℕ → List (List ℕ)

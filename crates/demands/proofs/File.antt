@@ -9,6 +9,7 @@ use lib.Dec.{leb}
 use lib.ListN.{length, take, drop}
 use types.Run.{OneOf, hit, miss}
 use borrow.Author.Tests.{leb-true, leb-false}
+use Rattle.files.specs.declared.Where.{Where}
 use Rattle.files.specs.Cut.{cut_of}
 use Rattle.std.specs.Prelude.{Result, Ok, Err}
 use Rattle.numbers.specs.Numbers.{file_number as number_of}
@@ -23,7 +24,7 @@ pub every_listing : (file bytes : List ℕ) → listing_of file ≡ listed bytes
 unfolding listing_of lines_of
 every_listing file bytes = by (read_of file).outcome refl
   where
-    by : (o : Result (Unit {0}) Refused) → (read_of file).outcome ≡ o → list_by (cut_of file) (read_of file).tables (drop (cut_of file) file) o ≡ listed bytes → Listed file bytes
+    by : (o : Result (Unit {0}) (Refused Where)) → (read_of file).outcome ≡ o → list_by (cut_of file) (read_of file).tables (drop (cut_of file) file) o ≡ listed bytes → Listed file bytes
     by (Ok _) e h =
         let j = file_judged (take (cut_of file) file) (drop (cut_of file) file) e in
         let q : lines_of (read_of file).tables (drop (cut_of file) file) ≡ bytes = cc in
@@ -34,7 +35,7 @@ file_number : (file : List ℕ) (n at : ℕ) → listing_of file ≡ refused n a
 unfolding listing_of
 file_number file n at = by (read_of file).outcome refl
   where
-    by : (o : Result (Unit {0}) Refused) → (read_of file).outcome ≡ o → list_by (cut_of file) (read_of file).tables (drop (cut_of file) file) o ≡ refused n at → OneOf file_numbers_lem n
+    by : (o : Result (Unit {0}) (Refused Where)) → (read_of file).outcome ≡ o → list_by (cut_of file) (read_of file).tables (drop (cut_of file) file) o ≡ refused n at → OneOf file_numbers_lem n
     by (Ok _) e h = absurd (cc)
     by (Err r) e h = let q : number_of r.why ≡ n = cc in subst (OneOf file_numbers_lem) q (file_refused (take (cut_of file) file) (drop (cut_of file) file) r e).number
 

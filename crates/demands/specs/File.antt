@@ -1,10 +1,11 @@
 -- Demand 1 for a whole file and the C caller's output: a listing, or a refusal's number with the output untouched.
+use Rattle.files.specs.declared.Where.{Where}
 use Rattle.std.specs.Prelude.{ℕ, ◌≤◌, ◌<◌, ◌≡◌, ◌⊎◌, List, [], ◌∷◌, ◌++◌, pos, neg_ℤ, length, take, drop}
 use types.Run.{OneOf}
 use Rattle.files.specs.Cut.{cut_of}
 use Rattle.files.specs.Schedule.{steps_of}
 use Rattle.files.specs.File.{file_of}
-use Rattle.files.specs.declared.File.{File}
+use Rattle.files.specs.declared.Reading.{Reading}
 use Rattle.lines.specs.Lines.{step_lines, state_lines}
 use Rattle.tables.specs.Judge.{judge}
 use Rattle.steps.specs.declared.Step.{Step}
@@ -15,7 +16,7 @@ use Rattle.listing.specs.Listing.{Listing, refused, listed, listing_of, in_room,
 use Rattle.demands.specs.OneCopy.{OneCopy}
 
 -- a file as it is read, cut after the first END
-abbrev pub read_of : List ℕ → File
+abbrev pub read_of : List ℕ → Reading Where
 read_of file = file_of (take (cut_of file) file) (drop (cut_of file) file)
 
 -- the state made fresh from its tables, and the steps that follow END

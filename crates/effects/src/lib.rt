@@ -45,7 +45,7 @@ pub fn submit(plan: &Plan, w: &mut Parts, t: u8) -> Answer
     Answer::Submitted(place)
 }
 
-// Puts t into the queue of s, with the vote of s, which is the answer.
+// Puts t into the queue of s, with the vote of s, which is the answer: the number as the cell keeps it.
 pub fn deliver_at(plan: &Plan, w: &mut Parts, t: usize, s: usize) -> u8
     requires laid { Laid plan.now }
     requires t_bound { (t < plan.now.tables.txns) × (s < 16) }

@@ -13,9 +13,9 @@ use Rattle.files.specs.Rows.{with_keys, with_group, with_txn}
 use Rattle.files.specs.Setup.{setup_read, read_setup}
 use Rattle.numbers.specs.declared.FileRefusal.TheVariants.{TooLong}
 use Rattle.files.specs.File.{refused, parts_by, opened, limit, file_of}
-use Rattle.files.specs.declared.Misfit.{Misfit}
+use Rattle.files.specs.declared.Refused.{Refused}
 use Rattle.files.specs.declared.Where.TheVariants.{InSetup}
-use Rattle.files.specs.declared.Setup.{Setup}
+use Rattle.files.specs.declared.Reading.{Reading}
 use Rattle.files.proofs.Falls.{setup_has}
 
 -- ---- what holds of the tables at each turn
@@ -94,7 +94,7 @@ judged T h k g e = rw (
 ) e
 
 -- a setup read as far as it goes, where it is not refused
-abbrev Ends : Setup → Type 0
+abbrev Ends : Reading ℕ → Type 0
 Ends x = elim x.outcome [ Ok _ ↦ judge x.tables ≡ 0 | Err e ↦ Unit {0} ]
 
 setup_ends : (s : List ℕ) → Ends (read_setup s)
@@ -112,7 +112,7 @@ pub file_judged : (setup schedule : List ℕ) → (file_of setup schedule).outco
 unfolding file_of
 file_judged setup schedule = by (ltb limit (length setup + length schedule)) (read_setup setup).outcome (read_setup setup).tables (setup_ends setup)
   where
-    by : (b : Bool) (v : Result (Unit {0}) Misfit) (T : Tables) → Ends (setup_read v T)
+    by : (b : Bool) (v : Result (Unit {0}) (Refused ℕ)) (T : Tables) → Ends (setup_read v T)
         → (cond b (opened (Err (refused TooLong (InSetup 0))) no_tables) (opened (parts_by v schedule) T)).outcome ≡ Ok tt
         → judge (cond b (opened (Err (refused TooLong (InSetup 0))) no_tables) (opened (parts_by v schedule) T)).tables ≡ 0
     by true v T h e = cc

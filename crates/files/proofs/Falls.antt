@@ -11,8 +11,8 @@ use Rattle.files.specs.Walk.{Turn, go, stop}
 use Rattle.files.specs.Schedule.{in_schedule, schedule_by, schedule_turn}
 use Rattle.files.specs.Rows.{with_keys, with_group, with_txn}
 use Rattle.files.specs.Setup.{Turned, reading, setup_read, turn_of, Reached, onward, setup_turn, read_from, read_setup}
-use Rattle.files.specs.declared.Misfit.{Misfit}
-use Rattle.files.specs.declared.Setup.{Setup}
+use Rattle.files.specs.declared.Refused.{Refused}
+use Rattle.files.specs.declared.Reading.{Reading}
 use Rattle.files.proofs.Fine.{group_room}
 use Rattle.files.proofs.Turns.{Cases, turn_is}
 use Rattle.files.proofs.Walk.{Has, walk_has}
@@ -28,19 +28,19 @@ setup_falls s x y = turn_is x.tables s x.at (λ (z : Turned). onward z.tables z.
   follows = λ next l h. cc;
 })
   where
-    on : {r : Record} {T : Tables} → Lies s x.at r → ◌≡◌ {A = Turn Reached Setup} (go (record { at = r.next; tables = T })) (go y) → length s - y.at < length s - x.at
+    on : {r : Record} {T : Tables} → Lies s x.at r → ◌≡◌ {A = Turn Reached (Reading ℕ)} (go (record { at = r.next; tables = T })) (go y) → length s - y.at < length s - x.at
     on {r = r} {T = T} l h =
         let z : record { at = r.next; tables = T } ≡ y = cc in
         let w : r.next ≡ y.at = ap (λ (r : Reached). r.at) z in
         omega (arith, l)
 
 -- a turn, by what it leads to
-pub turned : (s : List ℕ) (x : Reached) (p : Result (Option ℕ) Misfit) (T : Tables) → reading p T ≡ turn_of x.tables s x.at → setup_turn s x ≡ onward T p
+pub turned : (s : List ℕ) (x : Reached) (p : Result (Option ℕ) (Refused ℕ)) (T : Tables) → reading p T ≡ turn_of x.tables s x.at → setup_turn s x ≡ onward T p
 unfolding setup_turn
 turned s x p T h = rw (← h)
 
 -- what each record keeps, a setup ends with
-pub setup_has : (s : List ℕ) (I : Reached → Type 0) (P : Setup → Type 0) → ((r : Reached) → I r → Cases r.tables s r.at (λ (x : Turned). Has I P (onward x.tables x.next)))
+pub setup_has : (s : List ℕ) (I : Reached → Type 0) (P : Reading ℕ → Type 0) → ((r : Reached) → I r → Cases r.tables s r.at (λ (x : Turned). Has I P (onward x.tables x.next)))
     → I (record { at = 0; tables = no_tables }) → P (read_setup s)
 unfolding read_from setup_turn
 setup_has s I P keeps i = walk_has (setup_turn s) (setup_read (Ok tt) no_tables) (λ (r : Reached). length s - r.at) (setup_falls s)

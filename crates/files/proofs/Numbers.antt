@@ -11,7 +11,6 @@ use Rattle.files.specs.Setup.{read_setup}
 use Rattle.numbers.specs.Numbers.{file_number}
 use Rattle.numbers.specs.declared.FileRefusal.TheVariants.{TooLong}
 use Rattle.files.specs.File.{refused, outcome_of, parts_of, opened, limit, file_of}
-use Rattle.files.specs.declared.Misfit.{Misfit}
 use Rattle.files.specs.declared.Refused.{Refused}
 use Rattle.files.specs.declared.Where.{Where}
 use Rattle.files.specs.declared.Where.TheVariants.{InSetup, InSchedule}
@@ -25,7 +24,7 @@ abbrev pub file_numbers_lem : List ℕ
 file_numbers_lem = 1 ∷ record_numbers
 
 -- what is known of a part of m bytes
-abbrev Numbered : ℕ → Result (Unit {0}) Misfit → Type 0
+abbrev Numbered : ℕ → Result (Unit {0}) (Refused ℕ) → Type 0
 Numbered m (Ok _) = Unit {0}
 Numbered m (Err e) = OneOf record_numbers (file_number e.why) × (e.at ≤ m)
 
@@ -65,7 +64,7 @@ pub record Numbering (m n k : ℕ) (at : Where) : Type 0 where
   pub within : InPart m n at
   pub low : Low m at
 
-abbrev pub Held : ℕ → ℕ → Result (Unit {0}) Refused → Type 0
+abbrev pub Held : ℕ → ℕ → Result (Unit {0}) (Refused Where) → Type 0
 Held m n (Ok _) = m + n ≤ limit
 Held m n (Err r) = Numbering m n (file_number r.why) r.at
 
@@ -79,11 +78,11 @@ file_held setup schedule = by (ltb limit (m + n)) refl
     n : ℕ
     n = length schedule
 
-    second : m + n ≤ limit → (q : Result (Unit {0}) Misfit) → Numbered n q → Held m n (outcome_of InSchedule q (Ok tt))
+    second : m + n ≤ limit → (q : Result (Unit {0}) (Refused ℕ)) → Numbered n q → Held m n (outcome_of InSchedule q (Ok tt))
     second l (Ok _) h = l
     second l (Err e) h = record { number = inr h.0; within = h.1; low = omega (arith, h.1) }
 
-    first : m + n ≤ limit → (p : Result (Unit {0}) Misfit) (o : Result (Unit {0}) Refused) → Numbered m p → Held m n o → Held m n (outcome_of InSetup p o)
+    first : m + n ≤ limit → (p : Result (Unit {0}) (Refused ℕ)) (o : Result (Unit {0}) (Refused Where)) → Numbered m p → Held m n o → Held m n (outcome_of InSetup p o)
     first l (Ok _) o h g = g
     first l (Err e) o h g = record { number = inr h.0; within = h.1; low = omega (arith, h.1) }
 
@@ -93,5 +92,5 @@ file_held setup schedule = by (ltb limit (m + n)) refl
         let l = ltb-false limit (m + n) e in
         first l (read_setup setup).outcome (outcome_of InSchedule (read_schedule schedule) (Ok tt)) (setup_number setup) (second l (read_schedule schedule) (schedule_number schedule))
 
-pub file_refused : (setup schedule : List ℕ) (r : Refused) → (file_of setup schedule).outcome ≡ Err r → Numbering (length setup) (length schedule) (file_number r.why) r.at
+pub file_refused : (setup schedule : List ℕ) (r : Refused Where) → (file_of setup schedule).outcome ≡ Err r → Numbering (length setup) (length schedule) (file_number r.why) r.at
 file_refused setup schedule r e = rw e at (file_held setup schedule)

@@ -8,7 +8,7 @@ use Rattle.numbers.specs.declared.FileRefusal.{FileRefusal}
 use Rattle.tables.specs.declared.Tables.{Tables}
 use Rattle.std.specs.Result.{IsErrAnd}
 use Rattle.files.specs.Refusal.{misfit, placed}
-use Rattle.files.specs.declared.Misfit.{Misfit}
+use Rattle.files.specs.declared.Refused.{Refused}
 use Rattle.records.specs.Judge.{judge_at}
 use Rattle.records.specs.declared.Record.{Record}
 use Rattle.files.specs.Walk.{stop}
@@ -40,7 +40,7 @@ placed_ok (Ok y) at x h = cc
 placed_ok (Err why) at x h = cc
 
 -- a record that is not good
-module _ (at : ℕ) (e : Misfit) where
+module _ (at : ℕ) (e : Refused ℕ) where
   pub schedule_err : (j : Result Record FileRefusal) → Err e ≡ placed j at → schedule_by at j ≡ stop (Err e)
   schedule_err (Ok r) p = cc
   schedule_err (Err why) p = cc
@@ -63,7 +63,7 @@ module _ (T : Tables) (at n : ℕ) (new : Tables) (next : ℕ) (r : Result Table
       by true q = cc
       by false q = cc
 
-  pub taken_err : (e : Misfit) → Err e ≡ placed r at → reading (Err e) T ≡ taken T at n new next
+  pub taken_err : (e : Refused ℕ) → Err e ≡ placed r at → reading (Err e) T ≡ taken T at n new next
   unfolding taken
   taken_err e p = by (eqb n 0) (rw j at p)
     where
@@ -72,7 +72,7 @@ module _ (T : Tables) (at n : ℕ) (new : Tables) (next : ℕ) (r : Result Table
       by false q = cc
 
 -- END
-pub ended_err : (T : Tables) (s : List ℕ) (at next : ℕ) (e : Misfit) (r : Result (Unit {0}) FileRefusal) → file_answer r ≡ end_refusal T → Err e ≡ placed r at → reading (Err e) T ≡ ended T s at next
+pub ended_err : (T : Tables) (s : List ℕ) (at next : ℕ) (e : Refused ℕ) (r : Result (Unit {0}) FileRefusal) → file_answer r ≡ end_refusal T → Err e ≡ placed r at → reading (Err e) T ≡ ended T s at next
 unfolding ended
 ended_err T s at next e (Ok _) h p = cc
 ended_err T s at next e (Err why) h p = let q : e ≡ misfit why at = cc in rw (q, ← h, file_refuses why, file_called why)

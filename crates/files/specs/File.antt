@@ -6,34 +6,33 @@ use Rattle.tables.specs.Empty.{no_tables}
 use Rattle.tables.specs.declared.Tables.{Tables}
 use Rattle.files.specs.Setup.{read_setup}
 use Rattle.files.specs.Schedule.{read_schedule}
-use Rattle.files.specs.declared.Misfit.{Misfit}
+use Rattle.files.specs.declared.Refused.{Refused}
 use Rattle.files.specs.declared.Where.{Where}
 use Rattle.files.specs.declared.Where.TheVariants.{InSetup, InSchedule}
-use Rattle.files.specs.declared.Refused.{Refused}
-use Rattle.files.specs.declared.File.{File}
+use Rattle.files.specs.declared.Reading.{Reading}
 
-abbrev pub refused : FileRefusal → Where → Refused
+abbrev pub refused : FileRefusal → Where → Refused Where
 refused r w = record { why = r; at = w }
 
-abbrev pub outcome_of : (ℕ → Where) → Result (Unit {0}) Misfit → Result (Unit {0}) Refused → Result (Unit {0}) Refused
+abbrev pub outcome_of : (ℕ → Where) → Result (Unit {0}) (Refused ℕ) → Result (Unit {0}) (Refused Where) → Result (Unit {0}) (Refused Where)
 outcome_of part (Ok _) rest = rest
 outcome_of part (Err m) rest = Err (refused m.why (part m.at))
 
 -- the setup first, then the schedule
-abbrev pub parts_by : Result (Unit {0}) Misfit → List ℕ → Result (Unit {0}) Refused
+abbrev pub parts_by : Result (Unit {0}) (Refused ℕ) → List ℕ → Result (Unit {0}) (Refused Where)
 parts_by setup schedule = outcome_of InSetup setup (outcome_of InSchedule (read_schedule schedule) (Ok tt))
 
-abbrev pub parts_of : List ℕ → List ℕ → Result (Unit {0}) Refused
+abbrev pub parts_of : List ℕ → List ℕ → Result (Unit {0}) (Refused Where)
 parts_of setup schedule = parts_by (read_setup setup).outcome schedule
 
-abbrev pub opened : Result (Unit {0}) Refused → Tables → File
+abbrev pub opened : Result (Unit {0}) (Refused Where) → Tables → Reading Where
 opened o T = record { outcome = o; tables = T }
 
 abbrev pub limit : ℕ
 limit = 60000
 
 -- number 1 comes first, counts both parts and hands back setup
-unfoldable pub file_of : List ℕ → List ℕ → File
+unfoldable pub file_of : List ℕ → List ℕ → Reading Where
 file_of setup schedule =
     let long = opened (Err (refused TooLong (InSetup 0))) no_tables in
     let read = opened (parts_of setup schedule) (read_setup setup).tables in

@@ -8,21 +8,21 @@ use Rattle.records.specs.Judge.{judge_at}
 use Rattle.records.specs.declared.Record.{Record}
 use Rattle.files.specs.Walk.{Turn, go, stop, walk}
 use Rattle.files.specs.Refusal.{misfit}
-use Rattle.files.specs.declared.Misfit.{Misfit}
+use Rattle.files.specs.declared.Refused.{Refused}
 
 -- tags 10 to 15
 unfoldable pub in_schedule : ℕ → Bool
 in_schedule tag = leb 0x10 tag && leb tag 0x15
 
-abbrev pub schedule_by : ℕ → Result Record FileRefusal → Turn ℕ (Result (Unit {0}) Misfit)
+abbrev pub schedule_by : ℕ → Result Record FileRefusal → Turn ℕ (Result (Unit {0}) (Refused ℕ))
 schedule_by at (Ok r) = go r.next
 schedule_by at (Err why) = stop (Err (misfit why at))
 
 -- the schedule may stop after any record
-unfoldable pub schedule_turn : List ℕ → ℕ → Turn ℕ (Result (Unit {0}) Misfit)
+unfoldable pub schedule_turn : List ℕ → ℕ → Turn ℕ (Result (Unit {0}) (Refused ℕ))
 schedule_turn s at = cond (eqb at (length s)) (stop (Ok tt)) (schedule_by at (judge_at in_schedule s at))
 
-unfoldable pub read_schedule : List ℕ → Result (Unit {0}) Misfit
+unfoldable pub read_schedule : List ℕ → Result (Unit {0}) (Refused ℕ)
 read_schedule s = walk (schedule_turn s) (Ok tt) (suc (length s)) 0
 
 -- the step of a tag, its numbers from start on

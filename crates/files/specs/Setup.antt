@@ -11,8 +11,8 @@ use Rattle.files.specs.Walk.{Turn, go, stop, walk}
 use Rattle.numbers.specs.Numbers.{file_refusal}
 use Rattle.files.specs.Refusal.{misfit}
 use Rattle.files.specs.Rows.{with_keys, with_group, with_txn}
-use Rattle.files.specs.declared.Misfit.{Misfit}
-use Rattle.files.specs.declared.Setup.{Setup}
+use Rattle.files.specs.declared.Refused.{Refused}
+use Rattle.files.specs.declared.Reading.{Reading}
 
 -- which tag may come next: KEYS first, then a GROUP, then more GROUP, then TXN; END from the first GROUP on
 unfoldable pub allowed : ℕ → ℕ → ℕ → ℕ → Bool
@@ -27,10 +27,10 @@ in_setup T tag = allowed T.keys T.groups T.txns tag
 
 -- how far one record leads, on to a position or to the end, with the tables after it
 pub record Turned : Type 0 where
-  pub next : Result (Option ℕ) Misfit
+  pub next : Result (Option ℕ) (Refused ℕ)
   pub tables : Tables
 
-abbrev pub reading : Result (Option ℕ) Misfit → Tables → Turned
+abbrev pub reading : Result (Option ℕ) (Refused ℕ) → Tables → Turned
 reading p T = record { next = p; tables = T }
 
 -- the new tables with a record, or the refusal of number n
@@ -71,20 +71,20 @@ pub record Reached : Type 0 where
   pub at : ℕ
   pub tables : Tables
 
-abbrev pub setup_read : Result (Unit {0}) Misfit → Tables → Setup
+abbrev pub setup_read : Result (Unit {0}) (Refused ℕ) → Tables → Reading ℕ
 setup_read o T = record { outcome = o; tables = T }
 
-abbrev pub onward : Tables → Result (Option ℕ) Misfit → Turn Reached Setup
+abbrev pub onward : Tables → Result (Option ℕ) (Refused ℕ) → Turn Reached (Reading ℕ)
 onward T (Ok (Some next)) = go (record { at = next; tables = T })
 onward T (Ok None) = stop (setup_read (Ok tt) T)
 onward T (Err e) = stop (setup_read (Err e) T)
 
-unfoldable pub setup_turn : List ℕ → Reached → Turn Reached Setup
+unfoldable pub setup_turn : List ℕ → Reached → Turn Reached (Reading ℕ)
 setup_turn s r = let x = turn_of r.tables s r.at in onward x.tables x.next
 
 -- the whole of a setup, with these tables to begin with
-unfoldable pub read_from : Tables → List ℕ → Setup
+unfoldable pub read_from : Tables → List ℕ → Reading ℕ
 read_from T s = walk (setup_turn s) (setup_read (Ok tt) no_tables) (suc (length s)) (record { at = 0; tables = T })
 
-abbrev pub read_setup : List ℕ → Setup
+abbrev pub read_setup : List ℕ → Reading ℕ
 read_setup s = read_from no_tables s

@@ -5,7 +5,8 @@ ghost use Rattle.std.specs.Prelude.{◌≡◌, ◌≢◌, ◌+◌, ◌<◌, ◌�
 ghost use Rattle.tables.specs.Empty.{no_tables};
 ghost use Rattle.tables.specs.Judge.{group_refusal, txn_refusal};
 ghost use Rattle.records.specs.Rule.{pairs_length, fits};
-ghost use Rattle.records.specs.Judge.{judge_at};
+ghost use Rattle.records.specs.Record.{record_at, tag_of};
+ghost use Rattle.records.specs.Judge.{judge_by};
 ghost use Rattle.files.specs.Refusal.{placed};
 ghost use Rattle.files.specs.Cut.{cut_of};
 ghost use Rattle.files.specs.Rows.{with_keys, with_group, with_txn, reads_of, writes_of};
@@ -18,7 +19,7 @@ use records::{Field, Record};
 use steps::Step;
 use tables::{Group, Tables};
 
-// Tags stay bytes: one that is met may be none of these, and each place asks of it only once.
+// Tags stay bytes: document 01's table is indexed by them, and any byte may stand.
 const KEYS: u8 = 0x01;
 
 const GROUP: u8 = 0x02;
@@ -30,17 +31,17 @@ const END: u8 = 0x0F;
 // The most bytes that a file may have.
 const LIMIT: usize = 60000;
 
-// Why a part of the file is refused, and for the record at which byte of it.
+// Why a part of a file or a file is refused, and where the record stands.
 #[derive(Clone, Copy, Debug, PartialEq, Eq)]
-pub struct Misfit {
+pub struct Refused<P> {
     pub why: FileRefusal,
-    pub at: usize,
+    pub at: P,
 }
 
-// A setup's reading, with the tables read so far; a refusal gives them too.
+// A reading, with the tables read so far; a refusal gives them too.
 #[derive(Clone, Copy, Debug, PartialEq, Eq)]
-pub struct Setup {
-    pub outcome: Result<(), Misfit>,
+pub struct Reading<P> {
+    pub outcome: Result<(), Refused<P>>,
     pub tables: Tables,
 }
 
@@ -51,25 +52,11 @@ pub enum Where {
     InSchedule(usize),
 }
 
-// Why a file is refused, and for which record.
-#[derive(Clone, Copy, Debug, PartialEq, Eq)]
-pub struct Refused {
-    pub why: FileRefusal,
-    pub at: Where,
-}
-
-// A file's reading, with the tables read; a refusal gives them too.
-#[derive(Clone, Copy, Debug, PartialEq, Eq)]
-pub struct File {
-    pub outcome: Result<(), Refused>,
-    pub tables: Tables,
-}
-
 // What was found or its refusal, for the record at a byte.
-fn placed<T>(found: Result<T, FileRefusal>, at: usize) -> Result<T, Misfit>
+fn placed<T>(found: Result<T, FileRefusal>, at: usize) -> Result<T, Refused<usize>>
     ensures { result ≡ placed found at }
 {
-    found.map_err(|why| Misfit { why, at })
+    found.map_err(|why| Refused { why, at })
 }
 
 // Where the setup part of a file ends: just after the first END met by walking the lengths; without one, all is setup.
@@ -110,20 +97,13 @@ fn in_schedule(tag: u8) -> bool
     0x10 <= tag && tag <= 0x15
 }
 
-// What stands at a position of a setup, with the tables so far.
-fn judge_setup(t: &Tables, s: &[u8], at: usize) -> Result<Record, FileRefusal>
-    ensures { result ≡ judge_at (in_setup t.now) s.now at }
+// What stands at a position, where allowed says which tags may stand there.
+fn judge_at<F: Fn(u8) -> bool>(s: &[u8], at: usize, allowed: F) -> Result<Record, FileRefusal>
+    requires { F.IsAlwaysCallable allowed }
+    ensures { (ok : _) × F.post allowed (tag_of (record_at s.now at)) ok × (result ≡ judge_by (λ tag. ok) s.now (record_at s.now at)) }
 {
     let found = records::record_from(s, at);
-    records::judge(s, found, in_setup(t, records::tag_of(found)))
-}
-
-// What stands at a position of a schedule.
-fn judge_schedule(s: &[u8], at: usize) -> Result<Record, FileRefusal>
-    ensures { result ≡ judge_at in_schedule s.now at }
-{
-    let found = records::record_from(s, at);
-    records::judge(s, found, in_schedule(records::tag_of(found)))
+    records::judge(s, found, allowed(records::tag_of(found)))
 }
 
 // ---- a record is judged as it stands in the tables with it, so these are made anew and kept only if it is taken
@@ -211,23 +191,21 @@ fn take(t: Tables, s: &[u8], r: Record) -> Result<Tables, FileRefusal>
     requires allowed { (in_setup t r.tag ≡ true) × (r.tag ≢ 0x0F) }
     ensures { result ≡ accepted (record_refusal t s.now r) (with_record t s.now r) }
 {
-    if r.tag == KEYS {
-        return Ok(with_keys(t, s, r.start, r.len));
+    match r.tag {
+        KEYS => Ok(with_keys(t, s, r.start, r.len)),
+        GROUP => take_group(t, s, r.start),
+        _ => take_txn(t, s, r.start),
     }
-    if r.tag == GROUP {
-        return take_group(t, s, r.start);
-    }
-    take_txn(t, s, r.start)
 }
 
 // END; nothing may follow it in setup.
-fn ended(t: &Tables, s: &[u8], at: usize, next: usize) -> Result<Option<usize>, Misfit>
+fn ended(t: &Tables, s: &[u8], at: usize, next: usize) -> Result<Option<usize>, Refused<usize>>
     requires { t.now.groups ≤ 8 }
     ensures { reading result t.now ≡ ended t.now s.now at next }
 {
     placed(t.end_refusal(), at)?;
     if next < s.len() {
-        return Err(Misfit {
+        return Err(Refused {
             why: FileRefusal::Misplaced,
             at: next,
         });
@@ -236,11 +214,11 @@ fn ended(t: &Tables, s: &[u8], at: usize, next: usize) -> Result<Option<usize>, 
 }
 
 // One record of a setup: on past it, or to the setup's end.
-fn turn(t: &mut Tables, s: &[u8], at: usize) -> Result<Option<usize>, Misfit>
+fn turn(t: &mut Tables, s: &[u8], at: usize) -> Result<Option<usize>, Refused<usize>>
     requires { t.old.groups ≤ 8 }
     ensures { reading result t.new ≡ turn_of t.old s.now at }
 {
-    let record = placed(judge_setup(t, s, at), at)?;
+    let record = placed(judge_at(s, at, |tag| in_setup(t, tag)), at)?;
     if record.tag == END {
         return ended(t, s, at, record.next);
     }
@@ -249,7 +227,7 @@ fn turn(t: &mut Tables, s: &[u8], at: usize) -> Result<Option<usize>, Misfit>
 }
 
 // A setup, record by record, until one is END or is refused.
-fn read_tables(t: &mut Tables, s: &[u8]) -> Result<(), Misfit>
+fn read_tables(t: &mut Tables, s: &[u8]) -> Result<(), Refused<usize>>
     requires { t.old.groups ≤ 8 }
     ensures { setup_read result t.new ≡ read_from t.old s.now }
 {
@@ -261,22 +239,22 @@ fn read_tables(t: &mut Tables, s: &[u8]) -> Result<(), Misfit>
 }
 
 // A setup read into tables that are empty.
-pub fn read_setup(s: &[u8]) -> Setup
+pub fn read_setup(s: &[u8]) -> Reading<usize>
     ensures { result ≡ read_setup s.now }
 {
     let mut tables = tables::no_tables();
     let outcome = read_tables(&mut tables, s);
-    Setup { outcome, tables }
+    Reading { outcome, tables }
 }
 
 // A schedule's tags and lengths, judged to its end; it may stop after any record.
-pub fn read_schedule(s: &[u8]) -> Result<(), Misfit>
+pub fn read_schedule(s: &[u8]) -> Result<(), Refused<usize>>
     ensures { result ≡ read_schedule s.now }
 {
     let mut at: usize = 0;
     // A record says where the next begins.
     while at != s.len() {
-        let record = placed(judge_schedule(s, at), at)?;
+        let record = placed(judge_at(s, at, in_schedule), at)?;
         at = record.next;
     }
     Ok(())
@@ -290,6 +268,7 @@ pub fn step_by(tag: u8, s: &[u8], start: usize) -> Step
     let a = records::byte_at(s, start);
     let b = records::byte_at(s, start + 1);
     let c = records::byte_at(s, start + 2);
+    // The tags of document 01's table; of a judged schedule no other comes here.
     match tag {
         0x10 => Step::Read { t: a, i: b, s: c },
         0x11 => Step::Submit(a),
@@ -305,7 +284,7 @@ pub fn step_by(tag: u8, s: &[u8], start: usize) -> Step
 }
 
 // The outcome of a file whose setup was read so far: its own refusal, or what its schedule reads as.
-fn parts_outcome(setup: Result<(), Misfit>, schedule: &[u8]) -> Result<(), Refused>
+fn parts_outcome(setup: Result<(), Refused<usize>>, schedule: &[u8]) -> Result<(), Refused<Where>>
     ensures { result ≡ parts_by setup schedule.now }
 {
     setup.map_err(|m| Refused {
@@ -319,11 +298,11 @@ fn parts_outcome(setup: Result<(), Misfit>, schedule: &[u8]) -> Result<(), Refus
 }
 
 // A file in its two parts; both are counted.
-pub fn read_file<'a>(setup: &'a [u8], schedule: &'a [u8]) -> File
+pub fn read_file<'a>(setup: &'a [u8], schedule: &'a [u8]) -> Reading<Where>
     ensures { result ≡ file_of setup.now schedule.now }
 {
     if LIMIT < setup.len() || LIMIT - setup.len() < schedule.len() {
-        return File {
+        return Reading {
             outcome: Err(Refused {
                 why: FileRefusal::TooLong,
                 at: Where::InSetup(0),
@@ -332,7 +311,7 @@ pub fn read_file<'a>(setup: &'a [u8], schedule: &'a [u8]) -> File
         };
     }
     let read = read_setup(setup);
-    File {
+    Reading {
         outcome: parts_outcome(read.outcome, schedule),
         tables: read.tables,
     }

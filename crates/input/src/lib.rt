@@ -25,7 +25,7 @@ pub fn read_full<R: Read>(input: &mut R, buf: &mut [u8]) -> io::Result<usize>
     Ok(at)
 }
 
-// A buffer of n zeros, made in a function of its own: its caller's proof is told its length.
+// A buffer of N zeros, made in a function of its own: its caller's proof is told its length.
 pub fn zeros<const N: usize>() -> [u8; N]
     ensures { length result ≡ N }
 {

@@ -1,4 +1,5 @@
-// Sets as the bits of one number: keys are below 64, sites below 16.
+// Sets as the bits of one number: keys are below 64, sites below 16. They stay numbers, as GROUP has them: a struct would
+// be opened by each store.
 #![tactic(auto)]
 
 ghost use Rattle.std.specs.Prelude.{◌≡◌, false, ◌||◌, cond, ℕ, ◌<◌, ◌≤◌, eqb};

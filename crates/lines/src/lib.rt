@@ -21,6 +21,7 @@ pub fn put_step(w: &mut Writer, i: u32, a: Result<Answer, StepRefusal>)
     ensures wrote { Writes w.old w.new (step_line i (numbers_of a)) }
     ensures upper_bound { w.new.at ≤ w.old.at + 36 }
 {
+    // Written out, since a line of four numbers may ask for more room.
     let n = Numbers::from(a);
     w.text(b"STEP");
     w.field(i);
@@ -30,7 +31,7 @@ pub fn put_step(w: &mut Writer, i: u32, a: Result<Answer, StepRefusal>)
     w.byte(b'\n');
 }
 
-// The verdict on t: 0 open, else that of the lowest of n sites that closed it.
+// The verdict on t as it is listed: 0 open, else that of the lowest of n sites that closed it.
 fn verdict_of(closed: &[u8; 2048], n: usize, t: usize) -> u8
     requires { (n ≤ 16) × (t < 128) }
     ensures { result ≡ verdict_in closed.now n t }

@@ -30,7 +30,7 @@ lines_of T schedule =
     let steps = steps_of schedule in
     step_lines 0 (answers_of st steps) ++ state_lines (end_of st steps)
 
-abbrev pub list_by : ℕ → Tables → List ℕ → Result (Unit {0}) Refused → Listing
+abbrev pub list_by : ℕ → Tables → List ℕ → Result (Unit {0}) (Refused Where) → Listing
 list_by c T schedule (Ok _) = listed (lines_of T schedule)
 list_by c T schedule (Err r) = refused (file_number r.why) (offset_of c r.at)
 

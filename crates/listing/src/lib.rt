@@ -10,7 +10,7 @@ ghost use Rattle.text.specs.Wrote.{Wrote, Writes};
 ghost use Rattle.listing.specs.Run.{end_of, answers_of};
 ghost use Rattle.listing.specs.Listing.{listed, lines_of, listing_of, offset_of, printed, in_room, answer_of, answer_by, left_of};
 
-use files::{File, Where};
+use files::{Reading, Where};
 use machine::State;
 use numbers::FileRefusal;
 use plan::Plan;
@@ -29,6 +29,7 @@ fn run(st: &mut State, schedule: &[u8], w: &mut Writer)
 {
     let plan = Plan::of(st.tables);
     let mut idle = false;
+    // A record says where the next begins, so nothing else counts them.
     let mut i: u32 = 0;
     let mut at = 0;
     while let Ok(record) = records::record_from(schedule, at) {
@@ -76,7 +77,7 @@ fn put_in_room(tables: Tables, schedule: &[u8], out: &mut [u8]) -> Result<usize,
 
 // What a file holds; its reading has a stack frame of its own.
 #[inline(never)]
-fn read_parts(setup: &[u8], schedule: &[u8]) -> File
+fn read_parts(setup: &[u8], schedule: &[u8]) -> Reading<Where>
     ensures { result ≡ file_of setup.now schedule.now }
 {
     files::read_file(setup, schedule)

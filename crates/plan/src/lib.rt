@@ -11,13 +11,13 @@ ghost use Rattle.plan.specs.Planned.{Laid, Planned};
 use std::array;
 use tables::{Keys, Tables};
 
-// That the sets are those of the tables is a clause and no part of the type: some functions answer on any plan. It is lent
-// beside the parts of a state, since those may change.
+// That its counts and keys fit (`Laid`) and its sets are those of the tables (`Planned`) are clauses and no part of the
+// type: some functions answer on any plan. It is lent beside the parts of a state, since those may change.
 #[derive(Clone, Copy)]
 pub struct Plan {
     pub tables: Tables,
     pub sites: usize,
-    // The keys of each site, and the sites that hold each key.
+    // The keys of each site, of which the first `sites` are, and the sites that hold each key.
     pub site_sets: [u64; 16],
     pub holders: [u64; 64],
     // The keys that each transaction reads, and writes.

@@ -9,6 +9,7 @@ ghost use Rattle.parts.specs.Cells.{place_in, cell, nobody};
 
 use parts::Parts;
 use plan::Plan;
+use steps::Place;
 
 // Whether t waits at s.
 pub fn is_waiting(plan: &Plan, w: &Parts, t: usize, s: usize) -> bool
@@ -24,7 +25,7 @@ fn is_sooner(w: &Parts, t: u8, found: Option<u8>) -> bool
     ensures { result ≡ (eqb (unwrap_or found nobody) nobody || ltb (place_in w.now.places t) (place_in w.now.places (unwrap_or found nobody))) }
 {
     match found {
-        Some(u) => w.places[usize::from(t)].0 < w.places[usize::from(u)].0,
+        Some(u) => w.places[usize::from(t)] < w.places[usize::from(u)],
         None => true,
     }
 }
@@ -63,8 +64,8 @@ pub fn is_blocked(plan: &Plan, w: &Parts, t: usize, s: usize) -> bool
 }
 
 // Whether u, at place q, comes before t, at place p.
-pub fn is_before(u: usize, q: u32, t: usize, p: u32) -> bool
-    ensures { result ≡ precedes u q t p }
+pub fn is_before(u: usize, q: Place, t: usize, p: Place) -> bool
+    ensures { result ≡ precedes u q.0 t p.0 }
 {
     (q, u) < (p, t)
 }
@@ -75,9 +76,9 @@ pub fn is_at_head(plan: &Plan, w: &Parts, t: usize, s: usize) -> bool
     requires t_bound { (t < 128) × (s < 16) }
     ensures { result ≡ head_in w.now.places w.now.delivered w.now.closed plan.now.tables.txns t s }
 {
-    let p = w.places[t].0;
+    let p = w.places[t];
     !(0..usize::from(plan.tables.txns)).any(|u| is_queued(w, u, s)
-        && is_before(u, w.places[u].0, t, p))
+        && is_before(u, w.places[u], t, p))
 }
 
 // How many transactions have a place.

@@ -10,6 +10,7 @@ ghost use Rattle.records.specs.Judge.{judge_by};
 use numbers::FileRefusal;
 
 // A whole record: its body is the len bytes from start; next is past it.
+// Places and no slices: definitions and refusals speak of bytes of the file.
 #[derive(Clone, Copy, Debug, PartialEq, Eq)]
 pub struct Record {
     pub tag: u8,
@@ -31,7 +32,7 @@ pub enum Broken {
 pub fn byte_at(s: &[u8], i: usize) -> u8
     ensures { result ≡ get_or s.now i 0 }
 {
-    if i < s.len() { s[i] } else { 0 }
+    s.get(i).copied().unwrap_or(0)
 }
 
 // The n bytes of s from at, most significant first.
@@ -260,6 +261,7 @@ pub fn fits(s: &[u8], tag: u8, start: usize, len: usize) -> bool
 }
 
 // The tag of what stands at a position, 0 where the header is cut.
+// 0 is no tag and is allowed nowhere, so an Option would be asked the same.
 pub fn tag_of(found: Result<Record, Broken>) -> u8
     ensures { result ≡ tag_of found }
 {

@@ -34,7 +34,7 @@ fn is_current(w: &Parts, t: usize, i: usize, s: usize, k: usize) -> bool
     requires { ((t < 128) × (i < 8)) × ((s < 16) × (k < 64)) }
     ensures { result ≡ (recorded_in w.now.recorded t i && eqb (version_in w.now.versions s k) (get_or w.now.readversions (t * 8 + i) (version 0)).0) }
 {
-    w.recorded[t * 8 + i] && w.versions[s * 64 + k].0 == w.readversions[t * 8 + i].0
+    w.recorded[t * 8 + i] && w.versions[s * 64 + k] == w.readversions[t * 8 + i]
 }
 
 // The certification of t at s.

@@ -36,7 +36,8 @@ pub enum Verdict {
     Abort = 2,
 }
 
-// What an accepted step answers. Vote and verdict are the numbers that the state keeps: CARRY may find any there.
+// What an accepted step answers. Vote and verdict are the numbers that the state keeps: CARRY may find any there, and an
+// effect closes with 0 where no verdict is known.
 #[derive(Clone, Copy, Debug, PartialEq, Eq)]
 pub enum Answer {
     Read(Version, u32),

@@ -6,7 +6,7 @@ ghost use Rattle.std.specs.Prelude.{◌≡◌, [], ◌∷◌, ◌+◌, ◌*◌, 
 ghost use Rattle.text.specs.Text.{digits_of, line_of};
 ghost use Rattle.text.specs.Wrote.{Writes};
 
-// A buffer and the next place in it.
+// A buffer and the next place in it. How much more must fit differs from call to call, so each asks for it.
 pub struct Writer<'a> {
     out: &'a mut [u8],
     at: usize,
