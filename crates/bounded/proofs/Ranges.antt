@@ -1,4 +1,4 @@
--- Tests of a range are tests below its end, and a count of a list's front is one below its end.
+-- Tests of a range, from its first number up or from its last down, are tests below its end, and a count of a list's front is one below its end.
 use Rattle.std.proofs.Common.{ℕ, zero, suc, ◌+◌, ◌≤◌, ◌<◌, ◌≡◌, Bool, true, false, ◌&&◌, ◌||◌, cond, List, [], ◌∷◌, ◌++◌, length, get_or, take, ◌-◌, ltb, refl, sym, ap, subst, ◌∙◌, zero-add, add-one, arith}
 use Rattle.std.specs.List.{range_with_len, list_any, list_all, count_by, FoldsTo, AllWithin, HoldsAt}
 use Rattle.std.specs.Iterator.{YieldsThen}
@@ -6,14 +6,18 @@ use Rattle.std.specs.Fn.{Called}
 use Rattle.std.specs.Bool.{MatchBool}
 use Rattle.std.specs.Option.{MatchOption}
 use Rattle.std.proofs.iter.Yields.{nat_range_steps}
+use Rattle.std.specs.Iterator.Adapters.{rev_source, rev_steps}
+use Rattle.std.specs.Range.{range_steps_back}
+use Rattle.std.specs.declared.iter.Rev.{Rev}
 use Rattle.std.specs.declared.ops.Range.{Range}
 use Rattle.std.specs.Prelude.{Option}
 use denote.Param.Members.{Mut}
 use mathlib.Core.Logic.{◌⊎◌, inl, inr}
-use Rattle.std.proofs.lemmas.Iterator.{YieldsList-from_range, cases_from_any}
+use Rattle.std.proofs.lemmas.Iterator.{YieldsList, YieldsList-from_range, cases_from_all, cases_from_any}
+use Rattle.std.proofs.lemmas.Iterator.Consumers.{YieldsList-from_shown}
 use Rattle.std.proofs.lemmas.List.FromFn.{length-range_with_len, get_or-range_with_len}
 use Rattle.bounded.proofs.Truth.{bool, clash}
-use Rattle.bounded.proofs.Laws.{any_put, any_lack}
+use Rattle.bounded.proofs.Laws.{any_put, any_lack, all_put, all_get}
 use Rattle.std.proofs.lemmas.List.Folds.{list_any-append, list_all-append}
 use borrow.Author.Tests.{ltb-true, ltb-false}
 use lib.ListN.{get_or-eq_default}
@@ -105,3 +109,70 @@ any_below_Range s u f r test ran answers z = by (any_from_Range s u f r test ran
     by : (r ≡ true → (i : ℕ) × (s.start ≤ i) × (i < s.end) × (test i ≡ true)) × (r ≡ false → (i : ℕ) → s.start ≤ i → i < s.end → test i ≡ false) → (r ≡ true) ⊎ (r ≡ false) → r ≡ any_below s.end test
     by (found, none) (inl e) = let (i, a, b, t) = found e in e ∙ sym (any_put s.end test i b t)
     by (found, none) (inr e) = e ∙ sym (any_lack s.end test (λ i l t. clash t (none e i (omega arith) l)))
+
+-- ---- from the last number down
+
+-- the n numbers from a on, the last first
+down : ℕ → ℕ → List ℕ
+down a zero = []
+down a (suc n) = (a + n) ∷ down a n
+
+down_length : (a n : ℕ) → length (down a n) ≡ n
+unfolding down
+down_length a zero = refl
+down_length a (suc n) = ap suc (down_length a n)
+
+down_at : (a n k d : ℕ) → k < n → get_or (down a n) k d + suc k ≡ a + n
+unfolding down
+down_at a zero k d l = absurd (omega arith)
+down_at a (suc n) zero d l = omega arith
+down_at a (suc n) (suc k) d l = omega (arith, down_at a n k d (omega arith))
+
+down_more : (a b n m x : ℕ) → n ≡ suc m → x ≡ a + m → b ≡ a → down a n ≡ x ∷ down b m
+unfolding down
+down_more a b n m x e f g = rw (e, f, g)
+
+abbrev pub nat_range_steps_back : Rev (Range ℕ) → Option ℕ → Rev (Range ℕ) → Type 0
+nat_range_steps_back = rev_steps (range_steps_back (λ x y. y - x) (λ x y. y ≡ x + 1))
+
+Rev-gives : (s : Rev (Range ℕ)) → YieldsList nat_range_steps_back (λ x. x) s (down (rev_source s).start ((rev_source s).end - (rev_source s).start))
+unfolding down
+Rev-gives = YieldsList-from_shown nat_range_steps_back (λ x. x) (λ s. down (rev_source s).start ((rev_source s).end - (rev_source s).start))
+    (λ s t p. ap (λ n. length (down (rev_source s).start n)) p.1.0)
+    (λ s x t p. down_more _ _ _ _ x (omega (arith, p.0, p.1.0, p.1.2)) (omega (arith, p.0, p.1.0, p.1.1, p.1.2)) p.0)
+
+below_Rev : (s : Rev (Range ℕ)) (m n : ℕ) → rev_source s ≡ record { start = 0; end = m } → m ≡ n → YieldsList nat_range_steps_back (λ x. x) s (down 0 n)
+below_Rev s m n e f = subst (YieldsList nat_range_steps_back (λ x. x) s) (ap (λ (k : Range ℕ). down k.start (k.end - k.start)) e ∙ ap (down 0) (omega arith)) (Rev-gives s)
+
+-- what holds at a place holds of a number below n, and what holds at each of each
+down_some : (n k : ℕ) (P : ℕ → Type 0) → k < length (down 0 n) → HoldsAt P (down 0 n) k → (i : ℕ) × (i < n) × P i
+down_some n k P l h = (get_or (down 0 n) k 0, omega (arith, down_length 0 n, down_at 0 n k 0 (omega (arith, down_length 0 n))), h 0)
+
+down_each : (n : ℕ) (P : ℕ → Type 0) → AllWithin P (down 0 n) 0 (length (down 0 n)) → (i : ℕ) → i < n → P i
+down_each n P h i l =
+    let e : get_or (down 0 n) (n - suc i) 0 ≡ i = omega (arith, down_at 0 n (n - suc i) 0 (omega arith)) in
+    subst P e (h (n - suc i) 0 (omega arith) (omega (arith, down_length 0 n)))
+
+-- what `any` and `all` over the numbers below n, the last first, answer, where their closure answers the test there
+abbrev Tests : ℕ → (ℕ → Bool) → Bool → ℕ → Type 0
+Tests n test b i = i < n → test i ≡ b
+
+pub any_below_Rev : {F : Type 0} {g : Mut F (ℕ × Unit {0}) Bool} (s u : Rev (Range ℕ)) (f : F) (r : Bool) (test : ℕ → Bool) (m n : ℕ)
+    → (xs : List ℕ) × (o : Option ℕ) × (j : F) × YieldsThen nat_range_steps_back s xs o u × FoldsTo (λ p x q. Called g p (x, tt) false q) f xs j × MatchOption o (r ≡ false) (λ x. (r ≡ true) × ((h : F) × Called g j (x, tt) true h))
+    → ((x : ℕ) (b : Bool) (q : F) → Called g f (x, tt) b q → (q ≡ f) × (x < n → b ≡ test x))
+    → rev_source s ≡ record { start = 0; end = m } → m ≡ n → r ≡ any_below n test
+any_below_Rev s u f r test m n ran answers e k = by r (cases_from_any u f r (Tests n test true) (Tests n test false) ran (below_Rev s m n e k) (λ x q h l. sym ((answers x true q h).1 l)) (λ x q h. ((answers x false q h).0, λ l. sym ((answers x false q h).1 l))))
+  where
+    by : (b : Bool) → MatchBool b ((k : ℕ) × (k < length (down 0 n)) × HoldsAt (Tests n test true) (down 0 n) k) (AllWithin (Tests n test false) (down 0 n) 0 (length (down 0 n))) → b ≡ any_below n test
+    by true (k, l, h) = let (i, a, t) = down_some n k (Tests n test true) l h in sym (any_put n test i a (t a))
+    by false h = sym (any_lack n test (λ i a t. clash t (down_each n (Tests n test false) h i a a)))
+
+pub all_below_Rev : {F : Type 0} {g : Mut F (ℕ × Unit {0}) Bool} (s u : Rev (Range ℕ)) (f : F) (r : Bool) (test : ℕ → Bool) (m n : ℕ)
+    → (xs : List ℕ) × (o : Option ℕ) × (j : F) × YieldsThen nat_range_steps_back s xs o u × FoldsTo (λ p x q. Called g p (x, tt) true q) f xs j × MatchOption o (r ≡ true) (λ x. (r ≡ false) × ((h : F) × Called g j (x, tt) false h))
+    → ((x : ℕ) (b : Bool) (q : F) → Called g f (x, tt) b q → (q ≡ f) × (x < n → b ≡ test x))
+    → rev_source s ≡ record { start = 0; end = m } → m ≡ n → r ≡ all_below n test
+all_below_Rev s u f r test m n ran answers e k = by r (cases_from_all u f r (Tests n test true) (Tests n test false) ran (below_Rev s m n e k) (λ x q h. ((answers x true q h).0, λ l. sym ((answers x true q h).1 l))) (λ x q h l. sym ((answers x false q h).1 l)))
+  where
+    by : (b : Bool) → MatchBool b (AllWithin (Tests n test true) (down 0 n) 0 (length (down 0 n))) ((k : ℕ) × (k < length (down 0 n)) × HoldsAt (Tests n test false) (down 0 n) k) → b ≡ all_below n test
+    by true h = sym (all_put n test (λ i a. down_each n (Tests n test true) h i a a))
+    by false (k, l, h) = let (i, a, t) = down_some n k (Tests n test false) l h in elim (bool (all_below n test)) [ inl q ↦ clash (all_get n test q i a) (t a) | inr q ↦ sym q ]

@@ -60,7 +60,9 @@ fn is_shared(w: &Parts, n: usize, t: usize, s: usize) -> bool
     requires { (n ≤ 16) × (t < 128) }
     ensures { result ≡ shared w.now.carried n t s }
 {
-    (0..n).any(|a| keys::has(u64::from(w.carried[t * 16 + a]), s))
+    (0..n)
+        .rev()
+        .any(|a| keys::has(u64::from(w.carried[t * 16 + a]), s))
 }
 
 // Beside those, t may be closed now.

@@ -130,7 +130,7 @@ impl Plan {
         ensures { Planned self.now → t < self.now.tables.txns → result ≡ local self.now.tables t }
     {
         let all = self.keys_of(t);
-        (0..self.sites).all(|s| !keys::meet(all, self.site_sets[s])
+        (0..self.sites).rev().all(|s| !keys::meet(all, self.site_sets[s])
             || keys::is_inside(all, self.site_sets[s]))
     }
 

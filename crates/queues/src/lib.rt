@@ -60,7 +60,9 @@ pub fn is_blocked(plan: &Plan, w: &Parts, t: usize, s: usize) -> bool
     requires t_bound { (t < 128) × (s < 16) }
     ensures { Planned plan.now → t < plan.now.tables.txns → result ≡ blocked_of plan.now.tables w.now.delivered w.now.closed t s }
 {
-    (0..usize::from(plan.tables.txns)).any(|u| is_queued(w, u, s) && plan.is_conflict(t, u))
+    (0..usize::from(plan.tables.txns))
+        .rev()
+        .any(|u| is_queued(w, u, s) && plan.is_conflict(t, u))
 }
 
 // Whether u, at place q, comes before t, at place p.
@@ -77,8 +79,9 @@ pub fn is_at_head(plan: &Plan, w: &Parts, t: usize, s: usize) -> bool
     ensures { result ≡ head_in w.now.places w.now.delivered w.now.closed plan.now.tables.txns t s }
 {
     let p = w.places[t];
-    !(0..usize::from(plan.tables.txns)).any(|u| is_queued(w, u, s)
-        && is_before(u, w.places[u], t, p))
+    !(0..usize::from(plan.tables.txns))
+        .rev()
+        .any(|u| is_queued(w, u, s) && is_before(u, w.places[u], t, p))
 }
 
 // How many transactions have a place.

@@ -26,7 +26,7 @@ pub fn is_recorded(w: &Parts, n: usize, t: usize) -> bool
     requires { (t < 128) × (n ≤ 8) }
     ensures { result ≡ all_below n (recorded_in w.now.recorded t) }
 {
-    (0..n).all(|i| w.recorded[t * 8 + i])
+    (0..n).rev().all(|i| w.recorded[t * 8 + i])
 }
 
 // Whether t's i-th read, of key k, has the recorded version at s.
@@ -44,7 +44,7 @@ fn certify(plan: &Plan, w: &Parts, t: usize, s: usize) -> Vote
     ensures { Planned plan.now → vote_number (Some result) ≡ certify_in w.now.versions w.now.readversions w.now.recorded (read_row plan.now.tables t) (read_count plan.now.tables t) t s (site_keys plan.now.tables s) }
 {
     let m = plan.site_sets[s];
-    let is_yes = (0..plan.reads(t)).all(|i| {
+    let is_yes = (0..plan.reads(t)).rev().all(|i| {
         let k = plan.read_key(t, i);
         !keys::has(m, k) || is_current(w, t, i, s, k)
     });
@@ -102,7 +102,9 @@ fn is_covered(plan: &Plan, held: u64, t: usize) -> bool
     requires t_bound { t < plan.now.tables.txns }
     ensures { (own carried s : ℕ) → Planned plan.now → ((f : ℕ) → member held f ≡ holds_vote own carried s f) → result ≡ covered_in own carried plan.now.tables.group plan.now.tables.groups (read_row plan.now.tables t) (read_count plan.now.tables t) (site_count plan.now.tables) s }
 {
-    (0..plan.reads(t)).all(|i| keys::meet(plan.holders[plan.read_key(t, i)], held))
+    (0..plan.reads(t))
+        .rev()
+        .all(|i| keys::meet(plan.holders[plan.read_key(t, i)], held))
 }
 
 // Whether the vote on t of each of n sites of held is yes.
@@ -110,7 +112,9 @@ fn is_all_yes(w: &Parts, held: u64, n: usize, t: usize) -> bool
     requires { (n ≤ 16) × (t < 128) }
     ensures { (carried s : ℕ) → ((f : ℕ) → member held f ≡ holds_vote (cell 0 w.now.cast t s) carried s f) → result ≡ all_yes_in w.now.cast carried n t s }
 {
-    (0..n).all(|f| !keys::has(held, f) || w.cast[t * 16 + f] == 1)
+    (0..n)
+        .rev()
+        .all(|f| !keys::has(held, f) || w.cast[t * 16 + f] == 1)
 }
 
 // The verdict on t at s, if it is known.
@@ -140,7 +144,7 @@ pub fn has_room(plan: &Plan, w: &Parts, t: usize, s: usize) -> bool
     ensures { Planned plan.now → result ≡ room_of plan.now.tables w.now.versions t s }
 {
     let m = plan.site_sets[s];
-    (0..plan.writes(t)).all(|i| {
+    (0..plan.writes(t)).rev().all(|i| {
         let k = plan.write_key(t, i);
         !keys::has(m, k) || w.versions[s * 64 + k].0 < u32::MAX
     })
@@ -176,7 +180,9 @@ pub fn txns_fit(tables: &Tables) -> bool
     requires { tables.now.txns ≤ 128 }
     ensures { result ≡ txns_fit tables.now.keys tables.now.txn tables.now.txns }
 {
-    (0..usize::from(tables.txns)).all(|t| txn_fits(tables, t))
+    (0..usize::from(tables.txns))
+        .rev()
+        .all(|t| txn_fits(tables, t))
 }
 
 // Whether none of the first n transactions has a place over 128.
@@ -184,5 +190,5 @@ pub fn places_fit(places: &[Place; 128], n: u8) -> bool
     requires { n ≤ 128 }
     ensures { result ≡ places_fit places.now n }
 {
-    (0..usize::from(n)).all(|t| places[t].0 <= 128)
+    (0..usize::from(n)).rev().all(|t| places[t].0 <= 128)
 }

@@ -75,7 +75,7 @@ impl Keys {
         requires { n ≤ 8 }
         ensures { result ≡ in_row self.now.keys n k }
     {
-        (0..n).any(|i| self.keys[i] == k)
+        (0..n).rev().any(|i| self.keys[i] == k)
     }
 
     // Whether one of them stands there twice.
@@ -83,7 +83,9 @@ impl Keys {
         requires { self.now.count ≤ 8 }
         ensures { result ≡ twice self.now.keys self.now.count }
     {
-        (0..usize::from(self.count)).any(|i| self.has(i, self.keys[i]))
+        (0..usize::from(self.count))
+            .rev()
+            .any(|i| self.has(i, self.keys[i]))
     }
 
     // Whether each of them is below the number of keys.
@@ -91,7 +93,9 @@ impl Keys {
         requires { self.now.count ≤ 8 }
         ensures { result ≡ present self.now.keys self.now.count keys }
     {
-        (0..usize::from(self.count)).all(|i| self.keys[i] < keys)
+        (0..usize::from(self.count))
+            .rev()
+            .all(|i| self.keys[i] < keys)
     }
 }
 
@@ -159,7 +163,9 @@ impl Tables {
         requires { self.now.groups ≤ 8 }
         ensures { result ≡ some_group self.now.group self.now.groups k }
     {
-        (0..usize::from(self.groups)).any(|g| keys::has(self.group[g].keys, k))
+        (0..usize::from(self.groups))
+            .rev()
+            .any(|g| keys::has(self.group[g].keys, k))
     }
 
     // The refusal that the keys of transaction t have.
@@ -221,7 +227,10 @@ impl Tables {
         requires { self.now.groups ≤ 8 }
         ensures { file_answer result ≡ end_refusal self.now }
     {
-        if (0..usize::from(self.keys)).all(|k| self.some_group(k)) {
+        if (0..usize::from(self.keys))
+            .rev()
+            .all(|k| self.some_group(k))
+        {
             return Ok(());
         }
         Err(FileRefusal::Unheld)

@@ -1,8 +1,6 @@
 -- `rules::certify` meets its contract. The chain asks each of the reads, as `certify_in` does.
-use Rattle.std.proofs.Common.{arith, rules, ◌≡◌, ◌∙◌, refl, sym, ap, cond}
-use Rattle.std.proofs.lemmas.Iterator.{YieldsList-from_range}
-use Rattle.std.proofs.lemmas.Iterator.Search.{all_from_yields_List}
-use Rattle.bounded.proofs.Ranges.{all_in_range}
+use Rattle.std.proofs.Common.{rules, ◌≡◌, sym, ap, cond}
+use Rattle.bounded.proofs.Ranges.{all_below_Rev}
 use Rattle.tables.specs.Lists.{read_row, read_count}
 use Rattle.tables.specs.Sites.{site_keys}
 use Rattle.plan.specs.Planned.{Planned}
@@ -15,8 +13,7 @@ asked : (c : After-all-is_yes) → Planned c.args.plan.now
     ≡ cond c.all-is_yes.result 1 2
 unfolding certify_in
 asked c p = rw (← p.site_sets c.args.s c.requires.t_bound.1) (ap (λ b. cond b 1 2) (sym (
-    all_from_yields_List _ _ _ _ c.all-is_yes.ensures.ran (YieldsList-from_range 0 c.reads.result (read_count c.args.plan.now.tables c.args.t) refl (omega arith)) (λ x b q h. search rules)
-    ∙ all_in_range (read_count c.args.plan.now.tables c.args.t) _
+    all_below_Rev _ _ _ _ _ _ (read_count c.args.plan.now.tables c.args.t) c.all-is_yes.ensures.ran (λ x b q h. (search rules, λ l. search rules)) c.rev.ensures.source c.reads.ensures
     )))
 
 pub returns-then-is_yes : goal.returns-then-is_yes

@@ -1,13 +1,9 @@
 -- `rules::places_fit` meets its contract. The chain asks each of the n places.
-use Rattle.std.proofs.Common.{arith, rules, ◌∙◌, refl}
-use Rattle.std.proofs.lemmas.Iterator.{YieldsList-from_range}
-use Rattle.std.proofs.lemmas.Iterator.Search.{all_from_yields_List}
-use Rattle.bounded.proofs.Ranges.{all_in_range}
+use Rattle.std.proofs.Common.{rules}
+use Rattle.bounded.proofs.Ranges.{all_below_Rev}
 use Rattle.rules.specs.Fit.{places_fit}
 use Rattle.rules.proofs.places_fit.Goals as goal
 
 pub returns : goal.returns
 unfolding places_fit
-returns c =
-    all_from_yields_List _ _ _ _ c.all.ensures.ran (YieldsList-from_range 0 c.from.result c.args.n refl (omega arith)) (λ x b q h. search rules)
-    ∙ all_in_range c.args.n _
+returns c = all_below_Rev _ _ _ _ _ _ _ c.all.ensures.ran (λ x b q h. (search rules, λ l. search rules)) c.rev.ensures.source c.from.ensures
