@@ -1,5 +1,5 @@
--- What a commit stores.
-use Rattle.std.specs.Prelude.{ℕ, zero, suc, ◌+◌, ◌*◌, ◌<◌, true, cond, List, ◌≡◌, get_or, set}
+-- What a READ finds, and what a commit stores.
+use Rattle.std.specs.Prelude.{ℕ, zero, suc, ◌+◌, ◌-◌, ◌*◌, ◌<◌, true, cond, List, ◌≡◌, ltb, get_or, set}
 use Rattle.tables.specs.Lists.{write_count, write_key, write_value}
 use Rattle.tables.specs.Sites.{holds}
 use Rattle.tables.specs.declared.Tables.{Tables}
@@ -7,6 +7,13 @@ use Rattle.parts.specs.Changed.{with_stores}
 use Rattle.parts.specs.declared.Parts.{Parts}
 use Rattle.steps.specs.Kinds.{version}
 use Rattle.steps.specs.declared.Version.{Version}
+
+-- at place j of the stores, the version and the value; past the last version stand the values, and past the last value the versions recorded
+abbrev pub version_found : Parts → ℕ → ℕ
+version_found w j = cond (ltb j 1024) (get_or w.versions j (version 0)).0 (get_or w.values (j - 1024) 0)
+
+abbrev pub value_found : Parts → ℕ → ℕ
+value_found w j = cond (ltb j 1024) (get_or w.values j 0) (get_or w.readversions (j - 1024) (version 0)).0
 
 -- l, a store of rows of 64, with f of the i-th write and what was there, for each of t's first n written keys that s holds
 unfoldable pub stored : {A : Type 0} → Tables → ℕ → ℕ → A → (ℕ → A → A) → List A → ℕ → List A

@@ -1,33 +1,44 @@
 // What an accepted step answers and leaves of the parts of a state.
 #![tactic(auto)]
 
-ghost use Rattle.std.specs.Prelude.{◌≡◌, cond, ◌+◌, ◌*◌, ◌<◌, eqb, get_or, set, unwrap_or};
+ghost use Rattle.std.specs.Prelude.{◌≡◌, cond, ◌+◌, ◌*◌, ◌<◌, eqb, set, unwrap_or};
 ghost use Rattle.keys.specs.Keys.{member, adding};
 ghost use Rattle.tables.specs.Lists.{read_key};
 ghost use Rattle.plan.specs.Planned.{Laid, Planned};
-ghost use Rattle.parts.specs.Cells.{cell, version_in};
+ghost use Rattle.parts.specs.Cells.{cell};
 ghost use Rattle.parts.specs.Changed.{with_read, with_place, with_delivery, with_votes, with_closed};
 ghost use Rattle.queues.specs.Queue.{submitted_in, next_of};
 ghost use Rattle.rules.specs.Asked.{vote_in, verdict_at};
 ghost use Rattle.steps.specs.Kinds.{version, place};
-ghost use Rattle.effects.specs.Stored.{written_in, Room};
+ghost use Rattle.effects.specs.Stored.{version_found, value_found, written_in, Room};
 
 use parts::Parts;
 use plan::Plan;
 use steps::{Answer, Place, Verdict, Version};
 
+// What stands at a place of the stores. Past the last version stand the values, and past the last value the versions recorded.
+fn found(w: &Parts, j: usize) -> (Version, u32)
+    requires { j < 2048 }
+    ensures { (result.0 ≡ version (version_found w.now j)) × (result.1 ≡ value_found w.now j) }
+{
+    if j < 1024 {
+        (w.versions[j], w.values[j])
+    } else {
+        (Version(w.values[j - 1024]), w.readversions[j - 1024].0)
+    }
+}
+
 // READ: records the version and value of t's i-th read key at s.
 pub fn read(plan: &Plan, w: &mut Parts, t: u8, i: u8, s: u8) -> Answer
     requires laid { Laid plan.now }
     requires t_bound { (t < 128) × ((i < 8) × (s < 16)) }
-    ensures value { let k = read_key plan.now.tables t i in result ≡ Answer.Read (version (version_in w.old.versions s k)) (get_or w.old.values (s * 64 + k) 0) }
-    ensures parts { let k = read_key plan.now.tables t i in w.new ≡ with_read w.old t i (version_in w.old.versions s k) (get_or w.old.values (s * 64 + k) 0) }
+    ensures value { let j = s * 64 + read_key plan.now.tables t i in result ≡ Answer.Read (version (version_found w.old j)) (value_found w.old j) }
+    ensures parts { let j = s * 64 + read_key plan.now.tables t i in w.new ≡ with_read w.old t i (version_found w.old j) (value_found w.old j) }
 {
     let at = usize::from(t) * 8 + usize::from(i);
     let from = usize::from(s) * 64 + plan.read_key(usize::from(t), usize::from(i));
-    // The plan may be of no tables: a key may then be past the store.
-    let version = w.versions.get(from).copied().unwrap_or(Version(0));
-    let value = w.values.get(from).copied().unwrap_or(0);
+    // Past the reads of a transaction a key may be past the store.
+    let (version, value) = found(w, from);
     w.recorded[at] = true;
     w.readversions[at] = version;
     w.readvalues[at] = value;

@@ -48,7 +48,7 @@ pub fn after_close(order: &Order, w: &Parts, known: &mut Known, s: usize)
     known.stuck[s] = false;
     if known.closable[s] != Closable::Anyone {
         known.closable[s] = match order::head_at(order, p, q) {
-            // A transaction is below 128.
+            // What stands in an order is a byte.
             Some(t) => Closable::Only(t as u8),
             None => Closable::Nobody,
         };

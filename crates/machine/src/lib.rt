@@ -58,7 +58,7 @@ fn deliver_next(plan: &Plan, order: &Order, w: &mut Parts, known: &mut Known, s:
     requires p_bound { p < 128 }
     ensures { Turns (state_of plan.now w.old) 1 (state_of plan.now w.new) (codes order.now) known.old known.new }
 {
-    if let Some(t) = order::at(order, p) {
+    if let Some(t) = order::standing(order, p) {
         let site = usize::from(s);
         let _ = effects::deliver_at(plan, w, t, site);
         known::after_deliver(plan, w, known, t, site, p);

@@ -1,8 +1,9 @@
 -- `machine::take_in` meets its contract. With no refusal each arm knows its step, and the effect says the rest.
-use Rattle.std.proofs.Common.{◌≡◌, sym, arith}
+use Rattle.std.proofs.Common.{◌≡◌, ◌+◌, ◌*◌, ◌<◌, sym, arith, lt-ltb}
 use Rattle.std.proofs.lemmas.Result.{err_from_is_err_and}
 use Rattle.refusals.proofs.Passed.{read_has, submit_has, deliver_has, carry_has}
 use Rattle.refusals.specs.Refusals.{refusal_in}
+use Rattle.tables.specs.Lists.{read_key}
 use Rattle.machine.specs.Refusals.{refusal}
 use Rattle.machine.specs.Effects.{read_done, submit_done, deliver_done, carry_done, close_done}
 use Rattle.machine.specs.Steps.{done}
@@ -46,9 +47,12 @@ unfolding refusal_in
 close-requires c = (c.requires.0, close_may _ _ c.requires _ _ (rw c.in-Close.is at (ok (goal.at.close-requires c).In_ok-refusal)))
 
 pub returns-in-Read : goal.returns-in-Read
-unfolding done read_done
-returns-in-Read c = λ _. let z = ok (goal.at.returns-in-Read c).In_ok-refusal in
-    accepts _ _ z _ _ (rw (c.in-Read.is, c.read.ensures.value)) (rw (c.in-Read.is, c.read.ensures.parts))
+unfolding refusal_in done read_done
+returns-in-Read c = λ _. let z = ok (goal.at.returns-in-Read c).In_ok-refusal in let p = c.requires.0 in let x = c.in-Read in
+    let k = read_has _ _ _ _ _ p.fits (rw c.in-Read.is at z) in
+    -- a key that t reads is in the store
+    let low : x.s * 64 + read_key c.args.plan.now.tables x.t x.i < 1024 = omega (arith, k.site, p.laid.read_low _ _ k.txn k.count) in
+    accepts _ _ z _ _ (rw (c.in-Read.is, c.read.ensures.value, lt-ltb _ _ low)) (rw (c.in-Read.is, c.read.ensures.parts, lt-ltb _ _ low))
 
 pub returns-in-Submit : goal.returns-in-Submit
 unfolding done submit_done

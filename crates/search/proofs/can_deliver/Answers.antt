@@ -45,7 +45,7 @@ returns-in_err-t-clause-knows c p k =
     let order = codes c.args.order.now in
     let long : length c.args.w.now.places ≡ 128 = search rules in
     let at = c.in_ok-at.at in
-    let none : nobody ≤ get_or order at nobody = rw (sym c.at.ensures.value, c.in_err-t.was) (omega arith) in
+    let none : nobody ≤ get_or order at nobody = rw c.in_err-t.was at c.standing.ensures.value in
     clash ((c.in_ok-at.ensures.by_index p k.ordered).1 c.in_ok-at.ensures.bound.1) (none_waits c.args.plan.now.tables c.args.w.now.places c.args.w.now.delivered order c.args.s at long none)
 
 -- what is known with the three positions stored
