@@ -1,6 +1,7 @@
 -- Each turn that goes on leaves less of the part that is read, so what each turn keeps, a setup ends with; its groups stay at most eight.
 -- Assumes nothing.
-use Rattle.std.proofs.Common.{Option, Result, Ok, ℕ, suc, ◌-◌, ◌<◌, ◌≤◌, Bool, true, false, cond, List, ◌≡◌, ap, arith, eqb, length}
+use Rattle.std.proofs.Common.{Option, Some, None, Result, Ok, Err, ℕ, suc, ◌-◌, ◌<◌, ◌≤◌, Bool, true, false, cond, List, ◌≡◌, refl, ap, arith, eqb, length}
+use Rattle.std.specs.Result.{result_and}
 use Rattle.tables.specs.Empty.{no_tables}
 use Rattle.tables.specs.declared.Tables.{Tables}
 use Rattle.records.specs.Judge.{judge_at}
@@ -45,6 +46,12 @@ pub setup_has : (s : List ℕ) (I : Reached → Type 0) (P : Reading ℕ → Typ
 unfolding read_from setup_turn
 setup_has s I P keeps i = walk_has (setup_turn s) (setup_read (Ok tt) no_tables) (λ (r : Reached). length s - r.at) (setup_falls s)
     I P (λ r j. turn_is r.tables s r.at (λ (x : Turned). Has I P (onward x.tables x.next)) (keeps r j)) (suc (length s)) (record { at = 0; tables = no_tables }) (omega arith) i
+
+-- the else of `while let Some(next)`: what goes on no further stops
+pub other_stops : (T : Tables) (v : Result (Option ℕ) (Refused ℕ)) → ((to : ℕ) → v ≡ Ok (Some to) → ⊥) → onward T v ≡ stop (setup_read (result_and v (Ok tt)) T)
+other_stops T (Ok (Some to)) h = absurd (h to refl)
+other_stops T (Ok None) h = refl
+other_stops T (Err e) h = refl
 
 -- ---- at most eight groups
 

@@ -1,7 +1,7 @@
 // Reads into a lent buffer until it is full or there is no more.
 #![tactic(auto)]
 
-ghost use Rattle.std.specs.Prelude.{◌≡◌, ◌<◌, ◌≤◌, length, take, IfOk};
+ghost use Rattle.std.specs.Prelude.{◌≡◌, ◌<◌, ◌≤◌, length, take, IfOk, All};
 ghost use Rattle.std.specs.Io.KnownBytes.{Consumes, IsAtEnd};
 
 use std::io;
@@ -27,7 +27,8 @@ pub fn read_full<R: Read>(input: &mut R, buf: &mut [u8]) -> io::Result<usize>
 
 // A buffer of N zeros, made in a function of its own: its caller's proof is told its length.
 pub fn zeros<const N: usize>() -> [u8; N]
-    ensures { length result ≡ N }
+    ensures room { length result ≡ N }
+    ensures zeros { All (λ b. b ≡ 0) result }
 {
     [0; N]
 }

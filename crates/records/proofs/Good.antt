@@ -19,6 +19,14 @@ one_tag p s (Ok r) b e = rw e
 one_tag p s (Err (Body tag)) b e = rw e
 one_tag p s (Err Header) b e = refl
 
+-- the else branch of `let Ok(record)`: cut where any tag may stand; where none may, a body cut is misplaced
+pub not_whole : (s : List ℕ) (e : Broken) → judge_by (λ tag. true) s (Err e) ≡ Err Cut
+not_whole s (Body tag) = refl
+not_whole s Header = refl
+
+pub short : (s : List ℕ) (tag : ℕ) → judge_by (λ tag. false) s (Err (Body tag)) ≡ Err Misplaced
+short s tag = refl
+
 pub record Is (p : ℕ → Bool) (s : List ℕ) (at : ℕ) (r : Record) : Type 0 where
   pub lies : Lies s at r
   pub allowed : p r.tag ≡ true

@@ -5,11 +5,11 @@ use Rattle.refusals.proofs.Passed.{read_has, submit_has, deliver_has, carry_has}
 use Rattle.refusals.specs.Refusals.{refusal_in}
 use Rattle.tables.specs.Lists.{read_key}
 use Rattle.machine.specs.Refusals.{refusal}
-use Rattle.machine.specs.Effects.{read_done, submit_done, deliver_done, carry_done, close_done}
+use Rattle.machine.specs.Effects.{deliver_done}
 use Rattle.machine.specs.Steps.{done}
 use Rattle.machine.specs.Lent.{state_of}
-use Rattle.machine.proofs.Lent.{refuses, accepts}
-use Rattle.machine.proofs.Stores.{close_may, close_left}
+use Rattle.machine.proofs.Lent.{refuses, accepts, read_taken, submit_taken, carry_taken}
+use Rattle.machine.proofs.Stores.{close_may, close_taken}
 use Rattle.machine.proofs.take_in.Goals as goal
 use Rattle.machine.proofs.take_in.Goals.{In_ok-refusal}
 
@@ -47,18 +47,18 @@ unfolding refusal_in
 close-requires c = (c.requires.0, close_may _ _ c.requires _ _ (rw c.in-Close.is at (ok (goal.at.close-requires c).In_ok-refusal)))
 
 pub returns-in-Read : goal.returns-in-Read
-unfolding refusal_in done read_done
+unfolding refusal_in
 returns-in-Read c = λ _. let z = ok (goal.at.returns-in-Read c).In_ok-refusal in let p = c.requires.0 in let x = c.in-Read in
     let k = read_has _ _ _ _ _ p.fits (rw c.in-Read.is at z) in
     -- a key that t reads is in the store
     let low : x.s * 64 + read_key c.args.plan.now.tables x.t x.i < 1024 = omega (arith, k.site, p.laid.read_low _ _ k.txn k.count) in
-    accepts _ _ z _ _ (rw (c.in-Read.is, c.read.ensures.value, lt-ltb _ _ low)) (rw (c.in-Read.is, c.read.ensures.parts, lt-ltb _ _ low))
+    rw (c.in-Read.is, c.read.ensures.value, c.read.ensures.parts, lt-ltb _ _ low) (read_taken c.args.plan.now c.args.w.now _ _ _ (rw c.in-Read.is at z))
 
 pub returns-in-Submit : goal.returns-in-Submit
-unfolding done submit_done
+unfolding refusal_in
 returns-in-Submit c = λ _. let z = ok (goal.at.returns-in-Submit c).In_ok-refusal in
     let e = c.submit.ensures in
-    accepts _ _ z _ _ (rw (c.in-Submit.is, e.0)) (rw (c.in-Submit.is, e.1))
+    rw (c.in-Submit.is, e.0, e.1) (submit_taken c.args.plan.now c.args.w.now _ (rw c.in-Submit.is at z))
 
 pub returns-in-Deliver : goal.returns-in-Deliver
 unfolding done deliver_done
@@ -67,16 +67,15 @@ returns-in-Deliver c = λ _. let z = ok (goal.at.returns-in-Deliver c).In_ok-ref
     accepts _ _ z _ _ (rw (c.in-Deliver.is, e.0)) (rw (c.in-Deliver.is, e.1))
 
 pub returns-in-Carry : goal.returns-in-Carry
-unfolding refusal_in done carry_done
+unfolding refusal_in
 returns-in-Carry c = λ _. let z = ok (goal.at.returns-in-Carry c).In_ok-refusal in
-    let lacks = (carry_has _ _ _ _ _ _ (rw c.in-Carry.is at z)).lacks in
-    accepts _ _ z _ _ (rw (c.in-Carry.is, c.carry.ensures.value)) (rw (c.in-Carry.is, c.carry.ensures.parts, lacks))
+    rw (c.in-Carry.is, c.carry.ensures.value, c.carry.ensures.parts) (carry_taken c.args.plan.now c.args.w.now _ _ _ (rw c.in-Carry.is at z))
 
 pub returns-in-Close : goal.returns-in-Close
-unfolding refusal_in done close_done
+unfolding refusal_in
 returns-in-Close c = λ _. let z = ok (goal.at.returns-in-Close c).In_ok-refusal in
     let e = c.close.ensures in
-    accepts _ _ z _ _ (rw (c.in-Close.is, e.0)) (rw (c.in-Close.is, e.1) (close_left _ _ c.requires _ _ (rw c.in-Close.is at z)))
+    rw (c.in-Close.is, e.0, e.1) (close_taken _ _ c.requires _ _ (rw c.in-Close.is at z))
 
 pub returns-in-Settle : goal.returns-in-Settle
 unfolding done
