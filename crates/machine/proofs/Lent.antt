@@ -18,9 +18,12 @@ use Rattle.steps.specs.Kinds.{version, place}
 use Rattle.steps.specs.declared.Answer.{Answer}
 use Rattle.steps.specs.declared.Answer.TheVariants as answer
 use Rattle.steps.specs.declared.Step.{Step}
-use Rattle.steps.specs.declared.Step.TheVariants.{Read, Submit, Carry}
-use Rattle.machine.specs.Refusals.{read_refusal, submit_refusal, carry_refusal, refusal}
-use Rattle.machine.specs.Effects.{read_done, submit_done, carry_done}
+use Rattle.steps.specs.declared.Step.TheVariants.{Read, Submit, Deliver, Carry, Settle}
+use Rattle.machine.specs.Parts.{with_delivery}
+use Rattle.machine.specs.Rules.{next_at, vote_of}
+use Rattle.machine.specs.Refusals.{read_refusal, submit_refusal, deliver_refusal, carry_refusal, refusal}
+use Rattle.machine.specs.Effects.{read_done, submit_done, deliver_done, carry_done}
+use Rattle.machine.specs.Settle.{settle_done}
 use Rattle.machine.specs.Steps.{done, decided}
 use Rattle.machine.specs.Lent.{state_of, Takes}
 use Rattle.machine.specs.declared.State.{State}
@@ -35,6 +38,17 @@ refuses st x r e =
 
 pub accepts : (st : State) (x : Step) → refusal st x ≡ 0 → (a : Answer) (next : State) → Ok a ≡ (done st x).answer → next ≡ (done st x).next → Takes st x (Ok a) next
 accepts st x z a next p q = rw (taken st x z) (p, q)
+
+-- SETTLE is accepted always
+pub settles : (st : State) (a : Answer) (next : State) → Ok a ≡ (settle_done st).answer → next ≡ (settle_done st).next → Takes st Settle (Ok a) next
+unfolding refusal_in done
+settles st a next p q = accepts st Settle refl a next p q
+
+-- DELIVER, where t is the next at s and v the vote on it
+pub delivers : (st : State) (s t v : ℕ) (next : State) → deliver_refusal st s ≡ 0 → t ≡ next_at st s → v ≡ vote_of st t s → next ≡ with_delivery st t s v
+    → Takes st (Deliver s) (Ok (answer.Delivered t v)) next
+unfolding refusal_in done deliver_done
+delivers st s t v next z e q h = accepts st (Deliver s) z (answer.Delivered t v) next (rw (← e, ← q)) (rw (← e, ← q) h)
 
 -- an answer and the state after it, as one
 pub stepped : (st : State) (x : Step) (a : Answered) (next : State) → Takes st x a next → ◌≡◌ {A = Stepped} (record { answer = a; next = next }) (decided st x)

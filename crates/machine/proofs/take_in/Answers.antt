@@ -1,14 +1,12 @@
 -- `machine::take_in` meets its contract. With no refusal each arm knows its step, and the effect says the rest.
-use Rattle.std.proofs.Common.{◌≡◌, ◌+◌, ◌*◌, ◌<◌, sym, arith, lt-ltb}
+use Rattle.std.proofs.Common.{◌≡◌, ◌+◌, ◌*◌, ◌<◌, refl, sym, arith, lt-ltb}
 use Rattle.std.proofs.lemmas.Result.{err_from_is_err_and}
 use Rattle.refusals.proofs.Passed.{read_has, submit_has, deliver_has, carry_has}
 use Rattle.refusals.specs.Refusals.{refusal_in}
 use Rattle.tables.specs.Lists.{read_key}
 use Rattle.machine.specs.Refusals.{refusal}
-use Rattle.machine.specs.Effects.{deliver_done}
-use Rattle.machine.specs.Steps.{done}
 use Rattle.machine.specs.Lent.{state_of}
-use Rattle.machine.proofs.Lent.{refuses, accepts, read_taken, submit_taken, carry_taken}
+use Rattle.machine.proofs.Lent.{refuses, settles, delivers, read_taken, submit_taken, carry_taken}
 use Rattle.machine.proofs.Stores.{close_may, close_taken}
 use Rattle.machine.proofs.take_in.Goals as goal
 use Rattle.machine.proofs.take_in.Goals.{In_ok-refusal}
@@ -61,10 +59,10 @@ returns-in-Submit c = λ _. let z = ok (goal.at.returns-in-Submit c).In_ok-refus
     rw (c.in-Submit.is, e.0, e.1) (submit_taken c.args.plan.now c.args.w.now _ (rw c.in-Submit.is at z))
 
 pub returns-in-Deliver : goal.returns-in-Deliver
-unfolding done deliver_done
+unfolding refusal_in
 returns-in-Deliver c = λ _. let z = ok (goal.at.returns-in-Deliver c).In_ok-refusal in
     let e = c.deliver.ensures in
-    accepts _ _ z _ _ (rw (c.in-Deliver.is, e.0)) (rw (c.in-Deliver.is, e.1))
+    rw (c.in-Deliver.is, e.0, e.1) (delivers _ _ _ _ _ (rw c.in-Deliver.is at z) refl refl refl)
 
 pub returns-in-Carry : goal.returns-in-Carry
 unfolding refusal_in
@@ -78,7 +76,4 @@ returns-in-Close c = λ _. let z = ok (goal.at.returns-in-Close c).In_ok-refusal
     rw (c.in-Close.is, e.0, e.1) (close_taken _ _ c.requires _ _ (rw c.in-Close.is at z))
 
 pub returns-in-Settle : goal.returns-in-Settle
-unfolding done
-returns-in-Settle c = λ h. let z = ok (goal.at.returns-in-Settle c).In_ok-refusal in
-    let e = c.take_settle.ensures h in
-    accepts _ _ z _ _ (rw c.in-Settle.is e.0) (rw c.in-Settle.is e.1)
+returns-in-Settle c = λ h. let e = c.take_settle.ensures h in rw c.in-Settle.is (settles _ _ _ e.0 e.1)
