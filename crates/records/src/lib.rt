@@ -273,6 +273,7 @@ pub fn tag_of(found: Result<Record, Broken>) -> u8
 }
 
 // The first judgement of what stands at a position, where ok says whether its tag may stand there; let .. else as document 01 asks.
+// Inlined, since a call would copy each record there and back.
 #[inline(always)]
 pub fn judge(s: &[u8], found: Result<Record, Broken>, ok: bool) -> Result<Record, FileRefusal>
     ensures { result ≡ judge_by (λ tag. ok) s.now found }
