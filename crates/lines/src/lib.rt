@@ -3,7 +3,7 @@
 
 ghost use Rattle.std.specs.Prelude.{◌≡◌, true, cond, [], ◌∷◌, ◌+◌, ◌*◌, ◌^◌, ◌≤◌, ◌<◌};
 ghost use Rattle.machine.specs.Usable.{usable};
-ghost use Rattle.steps.specs.Answers.{numbers_of};
+ghost use Rattle.steps.specs.Answers.{numbers_by};
 ghost use Rattle.keys.specs.Keys.{member};
 ghost use Rattle.tables.specs.Sites.{site_count, site_keys};
 ghost use Rattle.text.specs.Text.{each};
@@ -11,14 +11,14 @@ ghost use Rattle.text.specs.Wrote.{Writes};
 ghost use Rattle.lines.specs.Lines.{step_line, verdict_in, txn_line, item_line, item_lines, state_lines};
 
 use machine::State;
-use numbers::StepRefusal;
+use numbers::Numbered;
 use steps::{Answer, Numbers};
 use text::Writer;
 
 // STEP, index, answer, two numbers.
-pub fn put_step(w: &mut Writer, i: u32, a: Result<Answer, StepRefusal>)
+pub fn put_step<R: Numbered>(w: &mut Writer, i: u32, a: Result<Answer, R>)
     requires { (i < 100000) × (w.old.at + 36 < 2 ^ 64) }
-    ensures wrote { Writes w.old w.new (step_line i (numbers_of a)) }
+    ensures wrote { Writes w.old w.new (step_line i (numbers_by R.listed_number a)) }
     ensures upper_bound { w.new.at ≤ w.old.at + 36 }
 {
     // Written out, since a line of four numbers may ask for more room.

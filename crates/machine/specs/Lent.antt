@@ -1,5 +1,5 @@
 -- The state that a plan and lent parts make, and a step taken in them.
-use Rattle.std.specs.Prelude.{ℕ, ◌+◌, ◌-◌, ◌≤◌, Bool, true, false, List, ◌≡◌, ltb, Ok, Err}
+use Rattle.std.specs.Prelude.{ℕ, ◌+◌, ◌-◌, ◌≤◌, Bool, true, false, List, ◌≡◌, ltb, Result, Ok, Err}
 use Rattle.plan.specs.Planned.{Planned}
 use Rattle.plan.specs.declared.Plan.{Plan}
 use Rattle.parts.specs.declared.Parts.{Parts}
@@ -12,6 +12,7 @@ use Rattle.machine.specs.Steps.{decided}
 use Rattle.machine.specs.declared.State.{State}
 use Rattle.steps.specs.declared.Step.{Step}
 use Rattle.steps.specs.Answers.{Answered}
+use Rattle.steps.specs.declared.Answer.{Answer}
 use Rattle.steps.specs.declared.Answer.TheVariants as answer
 
 abbrev pub state_of : Plan → Parts → State
@@ -36,7 +37,7 @@ abbrev pub Turns : State → ℕ → State → List ℕ → Known → Known → 
 Turns st k st' order l l' = Knows st.tables (parts_of st) order l → Turned st k st' order l'
 
 -- whether SETTLE is known to have nothing to do: after one that took less steps than it may, until another step is accepted than READ
-unfoldable pub idle_after : Bool → Answered → Bool
+unfoldable pub idle_after : {R : Type 0} → Bool → Result Answer R → Bool
 idle_after b (Err r) = b
 idle_after b (Ok (answer.Read v x)) = b
 idle_after b (Ok (answer.Submitted p)) = false

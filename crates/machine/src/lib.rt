@@ -130,7 +130,7 @@ pub fn take_in(plan: &Plan, w: &mut Parts, idle: bool, x: Step) -> Result<Answer
 
 // Whether SETTLE is known to have nothing to do after such an answer.
 #[tactic(auto, unfolding(crate::specs::Lent::idle_after))]
-pub fn idle_after(idle: bool, answer: Result<Answer, StepRefusal>) -> bool
+pub fn idle_after<R: Copy>(idle: bool, answer: Result<Answer, R>) -> bool
     ensures { result ≡ idle_after idle answer }
 {
     let Ok(answer) = answer else {

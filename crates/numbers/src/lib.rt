@@ -1,7 +1,7 @@
 // Why a file, tables or a step are refused, and the listed number of each reason.
 #![tactic(auto)]
 
-ghost use Rattle.std.specs.Prelude.{◌≡◌};
+ghost use Rattle.std.specs.Prelude.{◌≡◌, ℕ};
 ghost use Rattle.numbers.specs.Numbers.{file_number, step_number};
 
 #[derive(Clone, Copy, Debug, PartialEq, Eq)]
@@ -50,7 +50,7 @@ pub enum StepRefusal {
     LastVersion = 32,
 }
 
-// Each says its own number in a word; a trait over them would be no plainer.
+// Each says its own number in a word; a trait over both would be no plainer.
 impl FileRefusal {
     pub fn number(self) -> u8
         ensures { result ≡ file_number self }
@@ -64,5 +64,29 @@ impl StepRefusal {
         ensures { result ≡ step_number self }
     {
         self as u8
+    }
+}
+
+// What a step is listed as refused with: a reason of the machine's, or any byte.
+pub trait Numbered: Copy {
+    ghost listed_number: { Self → ℕ };
+
+    fn listed_number(&self) -> u8
+        ensures { result ≡ listed_number self.now };
+}
+
+impl Numbered for StepRefusal {
+    ghost listed_number = { step_number };
+
+    fn listed_number(&self) -> u8 {
+        self.number()
+    }
+}
+
+impl Numbered for u8 {
+    ghost listed_number = { λ n. n };
+
+    fn listed_number(&self) -> u8 {
+        *self
     }
 }

@@ -13,11 +13,15 @@ Answered = Result Answer StepRefusal
 abbrev pub numbers : ℕ → ℕ → ℕ → Numbers
 numbers n a b = record { code = n; first = a; second = b }
 
+-- where f gives the number of a refusal
+abbrev pub numbers_by : {R : Type 0} → (R → ℕ) → Result Answer R → Numbers
+numbers_by f (Ok (Read version value)) = numbers 0 version.0 value
+numbers_by f (Ok (Submitted place)) = numbers 0 place.0 0
+numbers_by f (Ok (Delivered t vote)) = numbers 0 t vote
+numbers_by f (Ok (Carried vote)) = numbers 0 vote 0
+numbers_by f (Ok (Closed verdict)) = numbers 0 verdict 0
+numbers_by f (Ok (Settled count)) = numbers 0 count 0
+numbers_by f (Err r) = numbers (f r) 0 0
+
 abbrev pub numbers_of : Answered → Numbers
-numbers_of (Ok (Read version value)) = numbers 0 version.0 value
-numbers_of (Ok (Submitted place)) = numbers 0 place.0 0
-numbers_of (Ok (Delivered t vote)) = numbers 0 t vote
-numbers_of (Ok (Carried vote)) = numbers 0 vote 0
-numbers_of (Ok (Closed verdict)) = numbers 0 verdict 0
-numbers_of (Ok (Settled count)) = numbers 0 count 0
-numbers_of (Err r) = numbers (step_number r) 0 0
+numbers_of = numbers_by step_number

@@ -2,10 +2,10 @@
 #![tactic(auto)]
 
 ghost use Rattle.std.specs.Prelude.{◌≡◌};
-ghost use Rattle.steps.specs.Answers.{numbers, numbers_of};
+ghost use Rattle.steps.specs.Answers.{numbers, numbers_by};
 ghost use Rattle.steps.specs.Codes.{vote_number, verdict_number};
 
-use numbers::StepRefusal;
+use numbers::Numbered;
 
 // How often a key was written, the first value counting as one; and a transaction's place in the order, 0 for none.
 #[derive(Clone, Copy, Debug, PartialEq, Eq, PartialOrd, Ord)]
@@ -66,11 +66,11 @@ fn listed(code: u32, first: u32, second: u32) -> Numbers
     }
 }
 
-impl From<Result<Answer, StepRefusal>> for Numbers {
-    ghost from_gives = { λ a n. n ≡ numbers_of a };
+impl<R: Numbered> From<Result<Answer, R>> for Numbers {
+    ghost from_gives = { λ a n. n ≡ numbers_by R.listed_number a };
 
     // An answer's number and its two values.
-    fn from(answer: Result<Answer, StepRefusal>) -> Numbers {
+    fn from(answer: Result<Answer, R>) -> Numbers {
         match answer {
             Ok(Answer::Read(version, value)) => listed(0, version.0, value),
             Ok(Answer::Submitted(place)) => listed(0, place.0, 0),
@@ -78,7 +78,7 @@ impl From<Result<Answer, StepRefusal>> for Numbers {
             Ok(Answer::Carried(vote)) => listed(0, u32::from(vote), 0),
             Ok(Answer::Closed(verdict)) => listed(0, u32::from(verdict), 0),
             Ok(Answer::Settled(count)) => listed(0, count, 0),
-            Err(refusal) => listed(u32::from(refusal.number()), 0, 0),
+            Err(refusal) => listed(u32::from(refusal.listed_number()), 0, 0),
         }
     }
 }
