@@ -39,7 +39,7 @@ extern "C" {
  * file and out may be null where their length is 0; they must not overlap. Any bytes may be handed in.
  * The function keeps nothing between calls, takes no memory from the heap and opens nothing, so calls
  * from several threads need no lock. With an out of less than PSTORE_ROOM bytes the schedule is run
- * twice, the first time for its length. A call takes at most 256 KB of stack (measured: 145,272 bytes).
+ * twice, the first time for its length. A call takes at most 256 KB of stack (measured: 145,352 bytes).
  */
 int64_t pstore_list(const uint8_t *file, size_t file_length, uint8_t *out, size_t out_length);
 
