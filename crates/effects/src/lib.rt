@@ -1,11 +1,11 @@
 // What an accepted step answers and leaves of the parts of a state.
 #![tactic(auto)]
 
-ghost use Rattle.std.specs.Prelude.{◌≡◌, cond, ◌+◌, ◌*◌, ◌<◌, eqb, set, unwrap_or};
+ghost use Rattle.std.specs.Prelude.{◌≡◌, cond, ◌+◌, ◌*◌, ◌<◌, eqb, get_or, set, unwrap_or};
 ghost use Rattle.keys.specs.Keys.{member, adding};
 ghost use Rattle.tables.specs.Lists.{read_key};
 ghost use Rattle.plan.specs.Planned.{Laid, Planned};
-ghost use Rattle.parts.specs.Cells.{cell};
+ghost use Rattle.parts.specs.Cells.{cell, version_in};
 ghost use Rattle.parts.specs.Changed.{with_read, with_place, with_delivery, with_votes, with_closed};
 ghost use Rattle.queues.specs.Queue.{submitted_in, next_of};
 ghost use Rattle.rules.specs.Asked.{vote_in, verdict_at};
@@ -29,7 +29,7 @@ fn found(w: &Parts, j: usize) -> (Version, u32)
 }
 
 // READ: records the version and value of t's i-th read key at s.
-pub fn read(plan: &Plan, w: &mut Parts, t: u8, i: u8, s: u8) -> Answer
+pub fn read_found(plan: &Plan, w: &mut Parts, t: u8, i: u8, s: u8) -> Answer
     requires laid { Laid plan.now }
     requires t_bound { (t < 128) × ((i < 8) × (s < 16)) }
     ensures value { let j = s * 64 + read_key plan.now.tables t i in result ≡ Answer.Read (version (version_found w.old j)) (value_found w.old j) }
@@ -43,6 +43,26 @@ pub fn read(plan: &Plan, w: &mut Parts, t: u8, i: u8, s: u8) -> Answer
     w.readversions[at] = version;
     w.readvalues[at] = value;
     Answer::Read(version, value)
+}
+
+// The same, but past the store nothing stands: there it finds 0 and 0.
+pub fn read(plan: &Plan, w: &mut Parts, t: u8, i: u8, s: u8) -> Answer
+    requires laid { Laid plan.now }
+    requires t_bound { (t < 128) × ((i < 8) × (s < 16)) }
+    ensures value { let k = read_key plan.now.tables t i in result ≡ Answer.Read (version (version_in w.old.versions s k)) (get_or w.old.values (s * 64 + k) 0) }
+    ensures parts { let k = read_key plan.now.tables t i in w.new ≡ with_read w.old t i (version_in w.old.versions s k) (get_or w.old.values (s * 64 + k) 0) }
+{
+    let answer = read_found(plan, w, t, i, s);
+    if usize::from(s) * 64 + plan.read_key(usize::from(t), usize::from(i)) < 1024 {
+        return answer;
+    }
+    // Where the arrays are named, their lengths are known.
+    let _ = &w.versions;
+    let _ = &w.values;
+    let at = usize::from(t) * 8 + usize::from(i);
+    w.readversions[at] = Version(0);
+    w.readvalues[at] = 0;
+    Answer::Read(Version(0), 0)
 }
 
 // SUBMIT: gives t the next place.
@@ -122,4 +142,40 @@ pub fn close(plan: &Plan, w: &mut Parts, t: u8, s: u8) -> Answer
     let number = verdict.map_or(0, |v| v.number());
     w.closed[at * 16 + site] = number;
     Answer::Closed(number)
+}
+
+#[cfg(test)]
+mod tests {
+    use super::*;
+
+    // Key 70 of site 15 is at 1,030: six past the last version.
+    #[test]
+    fn reads_past_the_store(rt: HostRuntime) {
+        let mut tables = tables::no_tables();
+        tables.txn[0].reads.keys[0] = 70;
+        let plan = Plan::of(tables);
+        let mut w = Parts {
+            versions: [Version(3); 1024],
+            values: [4; 1024],
+            recorded: [false; 1024],
+            readversions: [Version(5); 1024],
+            readvalues: [6; 1024],
+            places: [Place(0); 128],
+            delivered: [false; 2048],
+            closed: [0; 2048],
+            cast: [0; 2048],
+            carried: [0; 2048],
+        };
+        assert_eq!(rt; read(&plan, &mut w, 0, 0, 15), Answer::Read(Version(0), 0));
+        assert!(rt; w.recorded[0]);
+        assert_eq!(rt; w.readversions[0], Version(0));
+        assert_eq!(rt; w.readvalues[0], 0);
+        assert_eq!(rt;
+            read_found(&plan, &mut w, 0, 0, 15),
+            Answer::Read(Version(4), 5)
+        );
+        assert_eq!(rt; read(&plan, &mut w, 0, 0, 0), Answer::Read(Version(3), 4));
+        assert_eq!(rt; w.readversions[0], Version(3));
+        assert_eq!(rt; w.readvalues[0], 4);
+    }
 }

@@ -2,7 +2,7 @@
 #![tactic(auto)]
 
 ghost use Rattle.std.specs.Prelude.{◌≡◌, List, ℕ, ◌+◌, ◌≤◌, ◌<◌, eqb, get_or, length};
-ghost use Rattle.order.specs.Order.{codes, Ordered};
+ghost use Rattle.order.specs.Order.{codes, transactions, Ordered};
 ghost use Rattle.plan.specs.Planned.{Laid, Planned};
 ghost use Rattle.parts.specs.Cells.{nobody};
 ghost use Rattle.parts.specs.Changed.{with_votes};
@@ -38,7 +38,7 @@ pub fn first_known() -> Known
 // After a CLOSE at s: what it blocked may come, and the new head may be closed.
 pub fn after_close(order: &Order, w: &Parts, known: &mut Known, s: usize)
     requires { s < 16 }
-    ensures { Closed (codes order.now) known.old known.new s w.now.delivered w.now.closed }
+    ensures { Closed (codes order.now) known.old known.new s w.now.delivered w.now.closed × Closed (transactions order.now) known.old known.new s w.now.delivered w.now.closed }
 {
     // Where the array is named, its length is known.
     let _ = &w.delivered;
@@ -47,7 +47,7 @@ pub fn after_close(order: &Order, w: &Parts, known: &mut Known, s: usize)
     known.low[s] = p;
     known.stuck[s] = false;
     if known.closable[s] != Closable::Anyone {
-        known.closable[s] = match order::head_at(order, p, q) {
+        known.closable[s] = match order::head_number(order, p, q) {
             // What stands in an order is a byte.
             Some(t) => Closable::Only(t as u8),
             None => Closable::Nobody,
@@ -114,7 +114,7 @@ fn closes_now(plan: &Plan, order: &Order, w: &Parts, known: &mut Known, t: usize
     let q = known.top.at[s];
     let p = order::head_from(order, w, s, known.low[s], q);
     known.low[s] = p;
-    search::can_close(plan, w, t, s, order::head_at(order, p, q))
+    search::can_close(plan, w, t, s, order::head_number(order, p, q))
 }
 
 // CARRY of votes on t, one after the other, until one can be closed by it, none is left or n were carried; the answer is how many were.
@@ -152,4 +152,39 @@ pub fn carry_on(
     }
     known.passed[t] = q;
     k
+}
+
+#[cfg(test)]
+mod tests {
+    use super::*;
+    use steps::{Place, Version};
+
+    // At position 0 stands a number that is no transaction, at 1 the head of the queue of site 0.
+    #[test]
+    fn the_new_head_may_be_closed(rt: HostRuntime) {
+        let mut order: Order = [None; 128];
+        order[0] = Some(200);
+        order[1] = Some(3);
+        let mut w = Parts {
+            versions: [Version(1); 1024],
+            values: [0; 1024],
+            recorded: [false; 1024],
+            readversions: [Version(0); 1024],
+            readvalues: [0; 1024],
+            places: [Place(0); 128],
+            delivered: [false; 2048],
+            closed: [0; 2048],
+            cast: [0; 2048],
+            carried: [0; 2048],
+        };
+        w.delivered[48] = true;
+        let mut known = first_known();
+        known.closable[0] = Closable::Nobody;
+        after_close(&order, &w, &mut known, 0);
+        assert_eq!(rt; known.closable[0], Closable::Only(3));
+        assert_eq!(rt; known.low[0], 1);
+        w.closed[48] = 1;
+        after_close(&order, &w, &mut known, 0);
+        assert_eq!(rt; known.closable[0], Closable::Nobody);
+    }
 }

@@ -119,7 +119,7 @@ pub fn take_in(plan: &Plan, w: &mut Parts, idle: bool, x: Step) -> Result<Answer
 {
     refusals::refusal(plan, w, x)?;
     Ok(match x {
-        Step::Read { t, i, s } => effects::read(plan, w, t, i, s),
+        Step::Read { t, i, s } => effects::read_found(plan, w, t, i, s),
         Step::Submit(t) => effects::submit(plan, w, t),
         Step::Deliver(s) => effects::deliver(plan, w, s),
         Step::Carry { t, from, to } => effects::carry(w, t, from, to),

@@ -6,3 +6,4 @@ pub mod Entries
 pub mod Stored
 pub mod Closing
 pub mod Carrying
+pub mod Transactions

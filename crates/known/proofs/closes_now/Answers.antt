@@ -18,5 +18,5 @@ returns-clause-knows c p m k =
     let from = c.head_from-p.ensures in
     let long : length a.w.now.delivered ≡ 2048 = omega arith in (
       knows_moved T (seen a.w.now) (codes a.order.now) a.known.now k a.s c.requires.t_bound.1 _ from.by_index,
-      c.can_close.ensures p m (c.head_at.ensures.value ∙ head_found T p.fits (seen a.w.now) (codes a.order.now) a.known.now k a.s _ c.requires.t_bound.1 long from.by_index from.result_value),
+      c.can_close.ensures p m (c.head_number.ensures.value ∙ head_found T p.fits (seen a.w.now) (codes a.order.now) a.known.now k a.s _ c.requires.t_bound.1 long from.by_index from.result_value),
     )

@@ -14,4 +14,4 @@ pub returns : goal.returns
 returns c = λ k.
     let (r, e) = c.requires in
     let left = close_left _ _ r _ _ (accepted _ r.1 e) in
-    turn_closes _ r.1 _ _ _ _ _ _ e (rw c.close.ensures.1 left) (rw c.from.ensures at c.after_close.ensures) k
+    turn_closes _ r.1 _ _ _ _ _ _ e (rw c.close.ensures.1 left) (rw c.from.ensures at c.after_close.ensures.0) k

@@ -20,9 +20,9 @@ returns-in_err-refusal c = λ _.
     let p = err_from_is_err_and c.from_residual.result c.from_residual.ensures.1 in
     rw (p.1, p.2) (refuses _ _ _ (c.in_err-refusal.ensures c.requires.0))
 
-pub read-requires-clause-t_bound : goal.read-requires-clause-t_bound
+pub read_found-requires-clause-t_bound : goal.read_found-requires-clause-t_bound
 unfolding refusal_in
-read-requires-clause-t_bound c = let k = read_has _ _ _ _ _ c.requires.0.fits (rw c.in-Read.is at (ok (goal.at.read-requires-clause-t_bound c).In_ok-refusal)) in (k.row, (k.read, k.site))
+read_found-requires-clause-t_bound c = let k = read_has _ _ _ _ _ c.requires.0.fits (rw c.in-Read.is at (ok (goal.at.read_found-requires-clause-t_bound c).In_ok-refusal)) in (k.row, (k.read, k.site))
 
 pub submit-requires-clause-t_bound : goal.submit-requires-clause-t_bound
 unfolding refusal_in
@@ -50,7 +50,7 @@ returns-in-Read c = λ _. let z = ok (goal.at.returns-in-Read c).In_ok-refusal i
     let k = read_has _ _ _ _ _ p.fits (rw c.in-Read.is at z) in
     -- a key that t reads is in the store
     let low : x.s * 64 + read_key c.args.plan.now.tables x.t x.i < 1024 = omega (arith, k.site, p.laid.read_low _ _ k.txn k.count) in
-    rw (c.in-Read.is, c.read.ensures.value, c.read.ensures.parts, lt-ltb _ _ low) (read_taken c.args.plan.now c.args.w.now _ _ _ (rw c.in-Read.is at z))
+    rw (c.in-Read.is, c.read_found.ensures.value, c.read_found.ensures.parts, lt-ltb _ _ low) (read_taken c.args.plan.now c.args.w.now _ _ _ (rw c.in-Read.is at z))
 
 pub returns-in-Submit : goal.returns-in-Submit
 unfolding refusal_in

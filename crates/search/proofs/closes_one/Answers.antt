@@ -19,7 +19,7 @@ returns-then-closes-clause-value c p l k below above starts = let a = c.args in 
       | then-t-plan w ↦
           let low : t < nobody = omega (arith, w.if-t-plan.true, p.fits.txns) in
           let long : length a.w.now.delivered ≡ 2048 = search rules in
-          let h = head_stands a.plan.now a.w.now (codes a.order.now) a.s a.p a.q c.head_at-head.result p long c.requires.ordered below above starts c.head_at-head.ensures.value in
+          let h = head_stands a.plan.now a.w.now (codes a.order.now) a.s a.p a.q c.head_number-head.result p long c.requires.ordered below above starts c.head_number-head.ensures.value in
           c.from-then-closes.ensures
           ∙ sym (code_closes a.plan.now.tables p.fits (seen a.w.now) a.s t (λ e. absurd (omega (arith, e))) (rw (c.in-Only.is, lt-ltb t nobody low) at k)
           (ap (λ u. eqb (closing a.plan.now.tables (seen a.w.now) u a.s) 0) (sym w.from.ensures) ∙ sym (w.can_close-closes.ensures p l h) ∙ sym w.closes-is ∙ c.if-closes.true))
@@ -32,7 +32,7 @@ returns-else-closes-clause-value c p l k below above starts = let a = c.args in 
       | then-t-plan w ↦
           let low : t < nobody = omega (arith, w.if-t-plan.true, p.fits.txns) in
           let long : length a.w.now.delivered ≡ 2048 = search rules in
-          let h = head_stands a.plan.now a.w.now (codes a.order.now) a.s a.p a.q c.head_at-head.result p long c.requires.ordered below above starts c.head_at-head.ensures.value in
+          let h = head_stands a.plan.now a.w.now (codes a.order.now) a.s a.p a.q c.head_number-head.result p long c.requires.ordered below above starts c.head_number-head.ensures.value in
           sym (code_shut a.plan.now.tables p.fits (seen a.w.now) a.s t (λ e. absurd (omega (arith, e))) (rw (c.in-Only.is, lt-ltb t nobody low) at k)
           (ap (λ u. eqb (closing a.plan.now.tables (seen a.w.now) u a.s) 0) (sym w.from.ensures) ∙ sym (w.can_close-closes.ensures p l h) ∙ sym w.closes-is ∙ c.if-closes.false))
       | else-t-plan w ↦ sym (only_past a.plan.now.tables p.fits (seen a.w.now) a.s t w.if-t-plan.false (rw c.in-Only.is at k))
@@ -42,4 +42,4 @@ pub returns-in-Anyone-clause-value : goal.returns-in-Anyone-clause-value
 returns-in-Anyone-clause-value c p l k below above starts = let a = c.args in
     let long : length a.w.now.delivered ≡ 2048 = search rules in
     c.closes_first.ensures.value p l below above
-    (head_stands a.plan.now a.w.now (codes a.order.now) a.s a.p a.q c.head_at-head.result p long c.requires.ordered below above starts c.head_at-head.ensures.value)
+    (head_stands a.plan.now a.w.now (codes a.order.now) a.s a.p a.q c.head_number-head.result p long c.requires.ordered below above starts c.head_number-head.ensures.value)
